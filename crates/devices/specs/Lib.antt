@@ -1,0 +1,15 @@
+pub mod Refusals
+pub mod Printed
+pub mod Meant
+pub mod Making
+pub mod Feeding
+pub mod Printing
+pub mod Trays
+pub mod TextLines
+pub mod TextSteps
+pub mod LineHoppers
+pub mod LineTrays
+pub mod Strips
+pub mod StripReading
+pub mod StripMeaning
+pub mod StripSteps
