@@ -1,0 +1,4 @@
+pub mod Classes
+pub mod Entries
+pub mod Indicators
+pub mod Literals

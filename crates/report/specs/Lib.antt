@@ -1,0 +1,2 @@
+pub mod DeckCards
+pub mod Listings
