@@ -8,9 +8,9 @@ use Rattle.std.specs.Options.{valueOr}
 use Rattle.std.specs.declared.option.Option.{Option}
 use Rattle.std.specs.declared.option.Option.the-variants.{Some, None}
 use Rattle.columns.specs.Classes.{columns, isBlank}
-use Rattle.columns.specs.Entries.{isName, valueOf}
-use Rattle.columns.specs.Indicators.{indicatorOf, conditionOf}
-use Rattle.columns.specs.Literals.{textOf, textLength, numericOf}
+use Rattle.entries.specs.Entries.{isName, valueOf}
+use Rattle.entries.specs.Indicators.{indicatorOf, conditionOf}
+use Rattle.entries.specs.Literals.{textOf, textLength, numericOf}
 use Rattle.columns.specs.declared.kinds.Literal.{Literal}
 use Rattle.images.specs.Edits.{codeOf}
 use Rattle.cards.specs.declared.kinds.Kind.{Kind}

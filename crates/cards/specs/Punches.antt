@@ -8,9 +8,9 @@ use Rattle.std.specs.Options.{isSome}
 use Rattle.std.specs.declared.option.Option.{Option}
 use Rattle.std.specs.declared.option.Option.the-variants.{Some, None}
 use Rattle.columns.specs.Classes.{columns, within, isOf, allOf, isBlank}
-use Rattle.columns.specs.Entries.{isName, isNumber, valueOf}
-use Rattle.columns.specs.Indicators.{indicatorOf, among, isBlankOr, isCondition}
-use Rattle.columns.specs.Literals.{isText, isNumeric}
+use Rattle.entries.specs.Entries.{isName, isNumber, valueOf}
+use Rattle.entries.specs.Indicators.{indicatorOf, among, isBlankOr, isCondition}
+use Rattle.entries.specs.Literals.{isText, isNumeric}
 use Rattle.rules.specs.Rules.{Breach, rule, punch, each, first}
 use Rattle.columns.specs.declared.kinds.Class.the-variants as class
 use Rattle.rules.specs.declared.refusal.Refusal.the-variants.{Order}

@@ -7,13 +7,13 @@ ghost use Rattle.cards.specs.Punches.{isFilled, isAsked, isAllowed, isOptional
 use crate::inputs::widest_of;
 use columns::classes::at;
 use columns::classes::is_blank;
-use columns::entries::is_name;
-use columns::entries::is_number;
-use columns::entries::value;
-use columns::indicators::is_blank_or;
 use columns::kinds::Class;
-use columns::literals::is_numeric;
-use columns::literals::is_text;
+use entries::is_blank_or;
+use entries::is_name;
+use entries::is_number;
+use entries::is_numeric;
+use entries::is_text;
+use entries::value;
 use operations::Operation;
 
 // Filled where the entry is taken, and blank where it is not.

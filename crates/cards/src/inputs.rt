@@ -5,10 +5,10 @@ ghost use Rattle.cards.specs.Punches.{isPosition, isFilledCode, isCode, widthO
 use columns::classes::at;
 use columns::classes::front;
 use columns::classes::is_blank;
-use columns::entries::is_number;
-use columns::entries::value;
-use columns::indicators::is_blank_or;
 use columns::kinds::Class;
+use entries::is_blank_or;
+use entries::is_number;
+use entries::value;
 
 // A position on a data card, 1 to 80.
 pub(crate) fn is_position(s: &[u8]) -> bool

@@ -1,7 +1,7 @@
 // What a card means, read off its columns.
 ghost use mathlib.Core.Path.{_≡_};
 ghost use Prim.Native.Nat.{_+_, _≤_};
-ghost use Rattle.columns.specs.Literals.{textOf, textLength};
+ghost use Rattle.entries.specs.Literals.{textOf, textLength};
 ghost use Rattle.cards.specs.Meanings.{nameOf, nameIn, shapeOf, codeIn, conditionsIn, toldIn, codesIn, recordOf, fieldOf, literalFactor, factorOf, resultShape, calculationOf, lineKindOf, spacingOf, outputRecordOf, printedOf, outputFieldOf, meantBy, cardOf};
 use crate::inputs::width;
 use crate::kinds::CalculationCard;
@@ -24,14 +24,14 @@ use crate::tells::operation;
 use columns::classes::at;
 use columns::classes::entry;
 use columns::classes::is_blank;
-use columns::entries::is_name;
-use columns::entries::value;
-use columns::indicators::condition;
-use columns::indicators::indicator;
 use columns::kinds::Name;
-use columns::literals::numeric;
-use columns::literals::text;
 use devices::Card;
+use entries::condition;
+use entries::indicator;
+use entries::is_name;
+use entries::numeric;
+use entries::text;
+use entries::value;
 use images::EditCode;
 
 // The six columns of a name.

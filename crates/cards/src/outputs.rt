@@ -4,9 +4,9 @@ ghost use Prim.Native.Nat.{_≤_};
 ghost use Rattle.cards.specs.Punches.{isLineKind, isSpacing, isEdit, isBlankAfter, isEnd, isConstant};
 use columns::classes::at;
 use columns::classes::is_blank;
-use columns::entries::is_number;
-use columns::entries::value;
-use columns::literals::is_text;
+use entries::is_number;
+use entries::is_text;
+use entries::value;
 use images::EditCode;
 
 // H, D or T.

@@ -1,4 +1,1 @@
 pub mod Classes
-pub mod Entries
-pub mod Indicators
-pub mod Literals

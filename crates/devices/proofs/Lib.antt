@@ -1,8 +1,5 @@
 mod Columns
 mod Stacks
-mod Splits
+pub mod Splits
 mod Places
-mod Taken
-mod Trims
-mod Bodies
-mod Cuts
+pub mod Taken

@@ -9,7 +9,3 @@ pub mod TextLines
 pub mod TextSteps
 pub mod LineHoppers
 pub mod LineTrays
-pub mod Strips
-pub mod StripReading
-pub mod StripMeaning
-pub mod StripSteps

@@ -1,22 +1,9 @@
 -- A line as a printer means it.
-use mathlib.Core.List.{List, [], _∷_}
-use mathlib.Core.Bool.{Bool, true, _&&_}
+use mathlib.Core.List.{List}
 use Prim.Native.Nat.{ℕ}
-use lib.Dec.{leb, eqb}
-use lib.ListN.{length}
-use Rattle.bytes.specs.Printable.{printable}
 
 -- the number of the output record card that made the line, the spacing that follows it, and its columns
 pub record Printed : Type 0 where
   pub number : ℕ
   pub spacing : ℕ
   pub text : List ℕ
-
--- a number 1 to 256, a spacing 1 to 3, and 132 characters
-abbrev pub good : Printed → Bool
-good p = leb 1 (p .number) && leb (p .number) 256 && leb 1 (p .spacing) && leb (p .spacing) 3 && eqb (length (p .text)) 132 && printable (p .text)
-
--- each of the lines is such a line
-abbrev pub allGood : List Printed → Bool
-allGood [] = true
-allGood (p ∷ ps) = good p && allGood ps

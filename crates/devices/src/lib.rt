@@ -3,8 +3,8 @@
 // A `Hopper` means a list of cards to come and an ending, which is the end or a fault of the hopper's own kind.
 // Two hoppers stand here: the `Tray` reads cards that stand end to end, and the `LineHopper` makes a card of each
 // line of a text. A `Printer` means the lines that it holds, oldest first, and whether it has room for one more.
-// Two printers stand here: the `LineTray` keeps lines in places, and the `Strip` writes them as text, which a
-// program can print as it stands.
+// One printer stands here: the `LineTray` keeps lines in places. A printer that writes them as text is a matter of its
+// own; what it shares with the line hopper stands here too, which is `line_length`: where the first line of a text ends.
 //
 // Every call answers for every input: it says what became of the cards or the lines, and what it refuses it leaves as
 // it was. A caller that knows only the two traits knows all that it needs. Memory is taken when a device is made, never
@@ -20,7 +20,6 @@ mod line_making;
 mod line_tray;
 mod printer;
 mod refusal;
-mod strip;
 #[cfg(test)]
 mod tests;
 mod texts;
@@ -32,7 +31,6 @@ pub use card::CardEq;
 pub use card::CardPartialEq;
 pub use hopper::Hopper;
 pub use laws::line_end;
-pub use laws::longest_line;
 pub use line::Line;
 pub use line::LineDebug;
 pub use line::LineEq;
@@ -54,8 +52,7 @@ pub use refusal::Refusal;
 pub use refusal::RefusalDebug;
 pub use refusal::RefusalEq;
 pub use refusal::RefusalPartialEq;
-pub use strip::Strip;
-pub use strip::StripPrinter;
+pub use texts::line_length;
 pub use tray::Leftover;
 pub use tray::LeftoverDebug;
 pub use tray::LeftoverEq;

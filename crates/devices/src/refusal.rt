@@ -4,7 +4,7 @@ ghost use Rattle.devices.specs.Refusals.{numberOf};
 // Why a device was not made, or did not do what it was asked to.
 #[derive(Clone, Copy, PartialEq, Eq, Debug)]
 pub enum Refusal {
-    // A line tray of no places, or a strip that could not hold the longest line.
+    // The printer would be too small for a line: it has no place, or too few bytes for the longest.
     Small,
     // The printer cannot take a line now.
     NoRoom,

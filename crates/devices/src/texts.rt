@@ -1,23 +1,33 @@
-// What the line hopper and the strip both do with text.
+// What all do with text that read it line by line.
 ghost use Prim.Native.Nat.{_+_, _≤_};
 ghost use lib.Dec.{eqb};
 ghost use lib.ListN.{length, take, drop};
 ghost use mathlib.Core.List.{_∷_, _++_};
 ghost use mathlib.Core.Path.{_≡_};
 ghost use Rattle.devices.specs.TextLines.{linesOf};
-ghost use Rattle.devices.specs.TextSteps.{FirstLineIs};
+ghost use Rattle.devices.specs.TextSteps.{EndsAt, FirstLineIs};
 
-// The length of the first line, without the byte that ends it.
-pub(crate) fn line_length(text: &[u8]) -> usize
-    ensures within { λ r. ⌜ r ≤ length (now (text .entry)) ⌝ }
-    ensures lines { λ r. ⌜ (1 ≤ length (now (text .entry)) → linesOf (now (text .entry)) ≡ take r (now (text .entry)) ∷ linesOf (drop (r + 1) (now (text .entry)))) ⌝ }
+// The place of the byte that ends the first line, if it has its end.
+fn place_of_end(text: &[u8]) -> Option<usize>
+    ensures { λ r. ⌜ EndsAt (now (text .entry)) r ⌝ }
 {
     for (i, byte) in text.iter().enumerate() {
         if *byte == b'\n' {
-            return i;
+            return Some(i);
         }
     }
-    text.len()
+    None
+}
+
+// The length of the first line, without the byte that ends it.
+pub fn line_length(text: &[u8]) -> usize
+    ensures within { λ r. ⌜ r ≤ length (now (text .entry)) ⌝ }
+    ensures lines { λ r. ⌜ (1 ≤ length (now (text .entry)) → linesOf (now (text .entry)) ≡ take r (now (text .entry)) ∷ linesOf (drop (r + 1) (now (text .entry)))) ⌝ }
+{
+    match place_of_end(text) {
+        Some(place) => place,
+        None => text.len(),
+    }
 }
 
 // The first line of a text, and what stands behind its end.

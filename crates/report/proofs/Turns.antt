@@ -11,11 +11,11 @@ use Rattle.std.specs.declared.result.Result.{Result}
 use Rattle.std.specs.declared.result.Result.the-variants.{Ok, Err}
 use Rattle.devices.specs.declared.card.Card.{Card}
 use Rattle.devices.specs.Printed.{Printed}
-use Rattle.devices.specs.Strips.{strips}
-use Rattle.report.specs.declared.listing.BadColumn.{BadColumn}
-use Rattle.report.specs.declared.listing.Listed.{Listed}
-use Rattle.report.specs.declared.listing.Listed.the-variants as listed
-use Rattle.report.specs.Listings.{listingLine, answerOf, ListsNext}
+use Rattle.strip.specs.Strips.{strips}
+use Rattle.listing.specs.declared.listing.BadColumn.{BadColumn}
+use Rattle.listing.specs.declared.listing.Listed.{Listed}
+use Rattle.listing.specs.declared.listing.Listed.the-variants as listed
+use Rattle.listing.specs.Listings.{listingLine, answerOf, ListsNext}
 
 record Kept (cs cs′ : List Card) (ls ls′ : List Printed) : Type 0 where
   cards : cs′ ≡ cs

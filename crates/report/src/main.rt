@@ -8,29 +8,27 @@
 // error, and ends the program with status 1.
 ghost use mathlib.Core.List.{[]};
 ghost use mathlib.Core.Path.{_≡_};
-ghost use Rattle.devices.specs.StripMeaning.{stripLines};
+ghost use Rattle.strip.specs.StripMeaning.{stripLines};
 use deck::deck::Deck;
 use deck::kinds::Breach;
 use deck::kinds::ReadError;
-use deck_cards::DeckEnd;
-use deck_cards::take_deck;
 use devices::LineHopper;
 use devices::LineHopperHopper;
 use devices::LongLine;
 use devices::Printer;
-use devices::Strip;
-use devices::StripPrinter;
-use listing::Listed;
-use listing::list_next;
-use listing::tear_off_all;
+use listing::deck_cards::DeckEnd;
+use listing::deck_cards::take_deck;
+use listing::listing::Listed;
+use listing::listing::list_next;
+use listing::listing::tear_off_all;
 use rules::Refusal;
 use std::error::AnyError;
 use std::io;
 use std::io::Read;
 use std::io::Write;
+use strip::Strip;
+use strip::StripPrinter;
 
-mod deck_cards;
-mod listing;
 mod record;
 mod telling;
 

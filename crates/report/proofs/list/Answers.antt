@@ -1,5 +1,5 @@
 use Rattle.devices.specs.LineHoppers.{lineHopperCards, lineHopperEnding}
-use Rattle.devices.specs.StripMeaning.{stripLines, stripRoom}
+use Rattle.strip.specs.StripMeaning.{stripLines, stripRoom}
 use Rattle.report.proofs.Turns.{less-to-do}
 use Rattle.report.proofs.list.Needs as need
 

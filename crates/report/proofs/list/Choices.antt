@@ -1,7 +1,7 @@
 use Prim.Native.Nat.{_+_, _*_, min}
 use lib.ListN.{length}
 use Rattle.devices.specs.LineHoppers.{lineHopperCards}
-use Rattle.devices.specs.StripMeaning.{stripLines}
+use Rattle.strip.specs.StripMeaning.{stripLines}
 use Rattle.report.proofs.list.Given as given
 
 -- a card is fed, or the lines held are written out

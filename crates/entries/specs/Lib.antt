@@ -1,0 +1,3 @@
+pub mod Entries
+pub mod Indicators
+pub mod Literals

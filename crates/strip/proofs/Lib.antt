@@ -1,0 +1,3 @@
+mod Trims
+mod Bodies
+mod Cuts
