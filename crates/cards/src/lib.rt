@@ -7,6 +7,8 @@
 //
 // The crate looks at one card at a time, and knows of the cards before it only the highest rank in their order.
 // What several cards say together, and whether a name is known, is for the deck to say.
+#![tactic(auto)]
+
 mod calculations;
 pub mod inputs;
 pub mod kinds;

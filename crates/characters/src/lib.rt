@@ -2,6 +2,8 @@
 //
 // Every higher layer asks the same question of its columns, so it is answered once here. This crate knows
 // nothing of cards, lines or fields.
+#![tactic(auto)]
+
 ghost use Rattle.std.specs.Prelude.{◌≡◌, ◌≤◌, ◌&&◌};
 ghost use Rattle.characters.specs.Printable.{prints, first_unprintable};
 

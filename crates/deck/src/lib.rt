@@ -4,6 +4,8 @@
 // The crate promises that the answer is the first of all breaches in the order in which they are told, that a deck
 // is accepted exactly if there is none, and that the table then says what the columns say. It knows no data card
 // and no run.
+#![tactic(auto)]
+
 mod acting;
 pub mod actions;
 pub mod deck;

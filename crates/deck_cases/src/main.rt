@@ -4,6 +4,8 @@
 // A deck is one text line a card, filled with blanks. A line `/*` ends it; behind `/*` may stand how many of the
 // deck's last bytes are cut off. Of each deck its number is printed, and then `deck,NUMBER,CARD,COLUMN` where it is
 // refused, or `ok` and what its table holds, line by line.
+#![tactic(auto)]
+
 use deck::deck::Deck;
 use deck::kinds::Numbers;
 use devices::{Card, Hopper};

@@ -6,6 +6,8 @@
 // leaves what it refuses as it was.
 //
 // This crate knows characters, cards and lines. It may not know what the columns of a card mean, nor what makes a line.
+#![tactic(auto)]
+
 mod card;
 mod hopper;
 mod line;

@@ -2,6 +2,8 @@
 //
 // For each kind of entry this crate says whether columns hold one, and what they then mean. Every reading is total: it
 // asks nothing of the columns. The crate knows no card kind, no deck and no field table.
+#![tactic(auto)]
+
 mod indicators;
 mod literals;
 mod plain;

@@ -4,6 +4,8 @@
 // this table. Finding a name that is not there is an answer, and no call asks anything of its caller.
 //
 // The crate knows names and shapes. It may not know which cards define a field, nor which use it.
+#![tactic(auto)]
+
 use cards::kinds::Shape;
 use columns::kinds::Name;
 

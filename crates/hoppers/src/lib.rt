@@ -6,6 +6,8 @@
 // whoever else reads lines.
 //
 // This crate knows bytes and cards. It may not know what the columns of a card mean.
+#![tactic(auto)]
+
 mod laws;
 mod line_hopper;
 mod texts;

@@ -12,6 +12,8 @@
 //
 // Nothing here allocates, and no call asks anything of its caller: what it cannot do is an answer of its own. The
 // crate knows nothing of decks, fields, runs or printers.
+#![tactic(auto)]
+
 pub mod edits;
 pub mod image;
 pub mod laws;

@@ -4,6 +4,8 @@
 // a place that a torn off line leaves is used again. The places are taken from memory when it is made, and never later.
 //
 // This crate knows printers and lines. It may not know what makes a line, nor who tears it off.
+#![tactic(auto)]
+
 ghost use Rattle.std.specs.Prelude.{◌≤◌};
 ghost use Rattle.std.specs.VecDeque.{deque_capacity};
 

@@ -2,5 +2,7 @@
 //
 // Both are proved over any hopper and, where they print, any printer. The crate knows the mark that ends a deck, and
 // nothing of what a deck says.
+#![tactic(auto)]
+
 pub mod deck_cards;
 pub mod listing;

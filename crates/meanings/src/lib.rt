@@ -4,6 +4,8 @@
 // rules. It promises that each part of what it answers is what the columns of that entry say.
 //
 // The crate looks at one card at a time. Names stay as they are punched: looking them up is for the deck.
+#![tactic(auto)]
+
 ghost use Rattle.std.specs.Prelude.{◌≡◌, ◌+◌, ◌≤◌};
 ghost use Rattle.entries.specs.Literals.{text_of, text_length};
 ghost use Rattle.meanings.specs.Meanings.{name_of, name_in, shape_of, code_in, conditions_in, told_in, codes_in, record_of, field_of, literal_factor, factor_of, result_shape, calculation_of, line_kind_of, spacing_of, output_record_of, printed_of, output_field_of, meant_by, card_of};

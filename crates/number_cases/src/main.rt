@@ -1,5 +1,7 @@
 // Runs the calls of `numbers` and `images` on some thousands of cases, a line for each. What it must write is
 // worked out by a program of its own, outside/number_cases.py.
+#![tactic(auto)]
+
 mod calculates;
 mod cases;
 mod edits;

@@ -12,6 +12,8 @@
 //
 // Nothing here allocates, and no call asks anything of its caller: what it cannot do is an answer of its own. The
 // crate knows nothing of how an amount is printed, nor of decks, fields, runs or printers.
+#![tactic(auto)]
+
 pub mod amount;
 mod arithmetic;
 pub mod kinds;

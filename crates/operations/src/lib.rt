@@ -1,4 +1,6 @@
 // The operations of calculation cards: how each is punched, and which entries of its card it takes.
+#![tactic(auto)]
+
 ghost use Rattle.std.specs.Prelude.{◌≡◌};
 ghost use Rattle.operations.specs.Operations.{arithmetic_of, zeroing_of, other_of, operation_of, takes_of};
 

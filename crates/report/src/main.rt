@@ -6,6 +6,8 @@
 // listing stopped: `stop,22,CARD,COLUMN` at a byte that is no character, and `stop,23,CARDS,0` at a text line that is
 // longer than a card, CARDS being the number of data cards before it. A refusal or a stop is explained on standard
 // error, and ends the program with status 1.
+#![tactic(auto)]
+
 ghost use Rattle.std.specs.Prelude.{◌≡◌, []};
 ghost use Rattle.strip.specs.StripMeaning.{strip_lines};
 

@@ -1,7 +1,6 @@
 -- The first place by a relation is the first place by a test, where the relation's answer is the test's.
 use Rattle.std.proofs.Common.{◌≡◌, ℕ, zero, suc, ◌<◌, ◌≤◌, Bool, true, false, cond, eqb, List, [], ◌∷◌, length, get_or, Some, None, Decides, Option, sym, refl, ap, ◌∙◌, subst, suc-le-suc, zero-le, arith, rules, MatchOption}
 use Rattle.std.specs.Option.{option_map}
-use Rattle.std.specs.Cmp.Lexicographic.{Matches}
 use Rattle.std.specs.Str.{bytes_eq}
 use Rattle.std.proofs.lemmas.Bool.Decides.{same_from_decides, Decides-eqb}
 use Rattle.std.proofs.lemmas.Slice.Eq.{slice_eq-Decides, bytes_eq-Decides}
@@ -21,9 +20,3 @@ module _ {X : Type 0} (t : X → Bool) (E : X → Bool → Type 0) (tells : (y :
       let e : t x ≡ false = sym (tells x false (h.2 0 x (omega arith) (omega arith))) in
       let rest : Some i ≡ first_of t xs = first-is xs (Some i) (omega (arith, h.0), h.1, λ k d a b. h.2 (suc k) d (omega arith) (omega arith)) in
       rw e (ap (option_map suc) rest)
-
-pub byte_tells : (n y : ℕ) (b : Bool) → Decides b (y ≡ n) → b ≡ eqb y n
-byte_tells n y b h = same_from_decides b (eqb y n) h (Decides-eqb y n)
-
-pub name_tells : (n y : List ℕ) (b : Bool) → Matches (λ (a c : ℕ) (t : Bool). Decides t (a ≡ c)) y n b → b ≡ bytes_eq y n
-name_tells n y b h = same_from_decides b (bytes_eq y n) (slice_eq-Decides Decides-eqb y n b h) (bytes_eq-Decides y n)

@@ -3,6 +3,8 @@
 // A rule of a deck is kept, or it is told as a pair of refusal and column, to which the card's number is added above.
 // Finding an entry in a list is one text for every kind of entry that has an equality. The crate knows the numbers of
 // the refusals of a deck, and neither a card kind nor a field table.
+#![tactic(auto)]
+
 mod finding;
 mod refusal;
 mod telling;

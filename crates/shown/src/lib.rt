@@ -1,5 +1,7 @@
 // What the programs print: rows of cells, and the texts of indicators, names, bytes and other things as a person reads
 // them.
+#![tactic(auto)]
+
 mod parts;
 mod row;
 mod texts;

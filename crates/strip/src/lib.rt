@@ -9,6 +9,8 @@
 // time for the one line that it moves, not for all that are held.
 //
 // This crate knows printers, lines and characters. It may not know what makes a line, nor where the text goes.
+#![tactic(auto)]
+
 ghost use Rattle.std.specs.Prelude.{◌≡◌, ◌≤◌, true, length, drop, vec_capacity};
 ghost use Rattle.strip.specs.GoodLines.{all_good};
 ghost use Rattle.strip.specs.StripReading.{lines_in, anew_at};

@@ -5,6 +5,8 @@
 // by column, then kinds by column.
 //
 // The crate knows the field table and one card at a time. It may not know the cards around it, nor what a run does.
+#![tactic(auto)]
+
 ghost use Rattle.std.specs.Prelude.{◌≡◌, ℕ, ◌+◌, List, [], ◌∷◌, is_some, IfSome};
 ghost use Rattle.std.specs.Option.{option_map};
 ghost use Rattle.numbers.specs.Limits.{is_picture};

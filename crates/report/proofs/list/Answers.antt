@@ -6,8 +6,8 @@ use Rattle.report.proofs.list.Goals as goal
 pub cards-smaller : goal.cards-smaller
 cards-smaller c =
     let h = c.cards.hopper in
-    let h' = c.list-next.new.hopper in
+    let h' = c.list_next.new.hopper in
     let p = c.cards.strip in
-    let p' = c.list-next.new.printer in
+    let p' = c.list_next.new.printer in
     less_to_do (strip_room p) (line_hopper_cards h) (line_hopper_cards h') (line_hopper_ending h) (line_hopper_ending h') (strip_lines p) (strip_lines p')
-    (strip_lines c.write-out.new.strip) c.bytes.result.now c.in-NoRoom.ensures c.bytes.ensures c.if-bytes-eq0.false c.write-out.ensures
+    (strip_lines c.write_out.new.strip) c.bytes.result.now c.in-NoRoom.ensures c.bytes.ensures c.if-bytes-eq0.false c.write_out.ensures

@@ -8,7 +8,7 @@ returns-in-Some c =
 
 pub loop-rule-preserved : goal.loop-rule-preserved
 loop-rule-preserved c =
-    sym (walk_more c.args.highest c.args.card.now.columns c.args.rules.now c.loop-rule.rule-index _ (omega arith) (sym c.in-default.ensures)) ∙ c.loop-rule.invariant
+    sym (walk_more c.args.highest c.args.card.now.columns c.args.rules.now c.loop-rule.rule-index _ (omega arith) (sym c.in_default.ensures)) ∙ c.loop-rule.invariant
 
 pub returns : goal.returns
 returns c = sym (walk_end c.args.highest c.args.card.now.columns c.args.rules.now c.loop-rule.rule-index (omega arith)) ∙ c.loop-rule.invariant

@@ -7,6 +7,6 @@ pub returns : goal.returns
 returns c =
     let bs = c.args.bytes.now in
     record {
-      cards = cards_more bs c.requires ∙ ap (λ y. record { columns = y } ∷ whole_cards (drop 80 bs)) (sym c.copy-from-slice.ensures.after);
+      cards = cards_more bs c.requires ∙ ap (λ y. record { columns = y } ∷ whole_cards (drop 80 bs)) (sym c.copy_from_slice.ensures.after);
       ending = leftover-same bs c.requires;
     }

@@ -7,7 +7,7 @@ use Rattle.images.proofs.making.blank.Goals as goal
 pub invariant_of-result : goal.invariant_of-result
 invariant_of-result c =
     let t : take c.args.width (replicate image_columns 32) ≡ replicate c.args.width 32 = take-replicate {X = ℕ} c.args.width image_columns 32 c.requires in
-    (refl, (c.requires, (rw t (of_blanks c.args.width), tt)))
+    record { long = refl; fits = c.requires; printed = rw t (of_blanks c.args.width) }
 
 pub returns : goal.returns
 returns c =

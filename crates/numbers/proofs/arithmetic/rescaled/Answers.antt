@@ -7,31 +7,31 @@ use Rattle.numbers.proofs.arithmetic.rescaled.Goals as goal
 pub returns-then-decimals-into : goal.returns-then-decimals-into
 returns-then-decimals-into c =
     let f = c.ranges.count in
-    let b : c.below-zero-negative.result ≡ negative c.args.count = simp to_z-of_z at c.below-zero-negative.ensures in
-    let s : c.unsigned-abs-size.result ≡ nat_abs c.args.count = simp to_z-of_z at c.unsigned-abs-size.ensures.value in
+    let b : c.below_zero-negative.result ≡ negative c.args.count = simp to_z-of_z at c.below_zero-negative.ensures in
+    let s : c.unsigned_abs-size.result ≡ nat_abs c.args.count = simp to_z-of_z at c.unsigned_abs-size.ensures.value in
     record {
       count = c.store.ensures.count ∙ settled_down c.args.rounding c.args.into.digits c.args.into.decimals c.args.count c.args.decimals
-          c.below-zero-negative.result c.unsigned-abs-size.result c.ten.result c.quotient.result (omega arith) b s c.ten.ensures.value c.quotient.ensures;
+          c.below_zero-negative.result c.unsigned_abs-size.result c.ten.result c.quotient.result (omega arith) b s c.ten.ensures.value c.quotient.ensures;
       picture = c.store.ensures.picture;
     }
 
 pub returns-then-size-ten : goal.returns-then-size-ten
 returns-then-size-ten c =
     let f = c.ranges.count in
-    let b : c.below-zero-negative.result ≡ negative c.args.count = simp to_z-of_z at c.below-zero-negative.ensures in
-    let s : c.unsigned-abs-size.result ≡ nat_abs c.args.count = simp to_z-of_z at c.unsigned-abs-size.ensures.value in
+    let b : c.below_zero-negative.result ≡ negative c.args.count = simp to_z-of_z at c.below_zero-negative.ensures in
+    let s : c.unsigned_abs-size.result ≡ nat_abs c.args.count = simp to_z-of_z at c.unsigned_abs-size.ensures.value in
     record {
       count = c.store-then-size-ten.ensures.count ∙ settled_up c.args.rounding c.args.into.digits c.args.into.decimals c.args.count c.args.decimals
-          c.below-zero-negative.result c.unsigned-abs-size.result c.ten-then-size-ten.result (omega arith) b s c.ten-then-size-ten.ensures.value;
+          c.below_zero-negative.result c.unsigned_abs-size.result c.ten-then-size-ten.result (omega arith) b s c.ten-then-size-ten.ensures.value;
       picture = c.store-then-size-ten.ensures.picture;
     }
 
 pub returns-else-size-ten : goal.returns-else-size-ten
 returns-else-size-ten c =
     let f = c.ranges.count in
-    let s : c.unsigned-abs-size.result ≡ nat_abs c.args.count = simp to_z-of_z at c.unsigned-abs-size.ensures.value in
+    let s : c.unsigned_abs-size.result ≡ nat_abs c.args.count = simp to_z-of_z at c.unsigned_abs-size.ensures.value in
     record {
       count = settled-wide c.args.rounding c.args.into.digits c.args.into.decimals c.args.count c.args.decimals
-          c.unsigned-abs-size.result c.ten-2.result (omega arith) c.args.into.inside s c.ten-2.ensures.value c.if-size-ten.false;
+          c.unsigned_abs-size.result c.ten-2.result (omega arith) c.args.into.inside s c.ten-2.ensures.value c.if-size-ten.false;
       picture = tt;
     }

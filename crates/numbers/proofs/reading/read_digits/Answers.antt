@@ -19,7 +19,7 @@ loop-i-preserved c =
 
 pub returns-in_default : goal.returns-in_default
 returns-in_default c =
-    let e = sym (read_stop c.loop-i.value c.loop-i.i (c.args.first + c.loop-i.i) c.args.columns.now (omega arith) (sym c.in-default.ensures.value)) ∙ c.loop-i.invariant.1 in
+    let e = sym (read_stop c.loop-i.value c.loop-i.i (c.args.first + c.loop-i.i) c.args.columns.now (omega arith) (sym c.in_default.ensures.value)) ∙ c.loop-i.invariant.1 in
     record { value = e; small = tt; fits = tt }
 
 pub returns : goal.returns

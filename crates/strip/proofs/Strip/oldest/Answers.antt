@@ -2,8 +2,8 @@ use Rattle.std.proofs.Common.{◌∙◌}
 use Rattle.strip.proofs.Cuts.{next_on}
 use Rattle.strip.proofs.Strip.oldest.Goals as goal
 
-pub oldest-line-requires : goal.oldest-line-requires
-oldest-line-requires c =
+pub oldest_line-requires : goal.oldest_line-requires
+oldest_line-requires c =
     let s = c.args.self.now in
     let e = c.bytes.ensures ∙ s.written in
     record { good = rw e s.good; written = rw e s.written }
@@ -12,4 +12,4 @@ pub returns : goal.returns
 returns c =
     let s = c.args.self.now in
     let e = c.bytes.ensures ∙ s.written in
-    next_on s c.oldest-line.result (rw e at c.oldest-line.ensures)
+    next_on s c.oldest_line.result (rw e at c.oldest_line.ensures)

@@ -9,29 +9,29 @@ overflow_add-place c =
     let k = shrunk (vec_items s.held) s.first c.args.n s.front c.requires in
     search rules
 
-pub invariant_of-self-else-is-end : goal.invariant_of-self-else-is-end
-invariant_of-self-else-is-end c =
+pub invariant_of-self-else-is_end : goal.invariant_of-self-else-is_end
+invariant_of-self-else-is_end c =
     let s = c.args.self.now in
     let k = shrunk (vec_items s.held) s.first c.args.n s.front c.requires in
-    let a = anew-apart (s.first + c.args.n) (length (vec_items s.held)) (not_end s _ c.if-is-end.ensures) in
-    (s.large, (s.reserved, (k.front, (a, (k.good, (k.written, tt))))))
+    let a = anew-apart (s.first + c.args.n) (length (vec_items s.held)) (not_end s _ c.if-is_end.ensures) in
+    record { large = s.large; reserved = s.reserved; front = k.front; anew = a; good = k.good; written = k.written }
 
-pub returns-then-is-end : goal.returns-then-is-end
-returns-then-is-end c =
+pub returns-then-is_end : goal.returns-then-is_end
+returns-then-is_end c =
     let s = c.args.self.now in
-    let e = emptied (vec_items s.held) s.first c.args.n (at_end s _ c.if-is-end.ensures) in
+    let e = emptied (vec_items s.held) s.first c.args.n (at_end s _ c.if-is_end.ensures) in
     record {
       lines = ap lines_in c.clear.ensures.items ∙ sym e;
       size = refl;
       used = rw c.clear.ensures.items c.clear.ensures.len;
     }
 
-pub returns-else-is-end : goal.returns-else-is-end
-returns-else-is-end c =
+pub returns-else-is_end : goal.returns-else-is_end
+returns-else-is_end c =
     let s = c.args.self.now in
     let k = shrunk (vec_items s.held) s.first c.args.n s.front c.requires in
     record {
       lines = k.lines;
       size = refl;
-      used = some_left (vec_items s.held) (s.first + c.args.n) (vec_len s.held) k.written k.front (not_end s _ c.if-is-end.ensures);
+      used = some_left (vec_items s.held) (s.first + c.args.n) (vec_len s.held) k.written k.front (not_end s _ c.if-is_end.ensures);
     }

@@ -4,4 +4,4 @@ use Rattle.strip.proofs.Strip.rest.Goals as goal
 
 pub returns : goal.returns
 returns c =
-    rest_all c.as-slice-all.result.now (vec_items c.args.self.now.held) c.args.self.now.first c.as-slice-all.ensures.value
+    rest_all c.as_slice-all.result.now (vec_items c.args.self.now.held) c.args.self.now.first c.as_slice-all.ensures.value

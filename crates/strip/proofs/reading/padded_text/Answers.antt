@@ -4,5 +4,5 @@ use Rattle.strip.proofs.reading.padded_text.Goals as goal
 
 pub returns : goal.returns
 returns c =
-    let e = fronted (replicate 132 32) c.args.bytes.now c.copy-from-slice.new.self c.copy-from-slice.ensures.after in
+    let e = fronted (replicate 132 32) c.args.bytes.now c.copy_from_slice.new.self c.copy_from_slice.ensures.after in
     blank_behind 132 c.args.bytes.now _ e

@@ -8,6 +8,6 @@ returns c =
     let l = c.args.line.now in
     let p = pieces (vec_items c.args.held.now) (numeral l.number) (numeral l.spacing) (trimmed l.text) (10 ∷ []) in
     record {
-      items = c.add-4.ensures.items ∙ rw (c.add-3.ensures.items, c.trimmed-length.ensures.taken, c.add-2.ensures.items, c.add-number-2.ensures.items, c.add.ensures.items, c.add-number.ensures.items) p;
-      capacity = omega (arith, c.add-number.ensures.capacity, c.add.ensures.capacity, c.add-number-2.ensures.capacity, c.add-2.ensures.capacity, c.add-3.ensures.capacity, c.add-4.ensures.capacity);
+      items = c.add-4.ensures.items ∙ rw (c.add-3.ensures.items, c.trimmed_length.ensures.taken, c.add-2.ensures.items, c.add_number-2.ensures.items, c.add.ensures.items, c.add_number.ensures.items) p;
+      capacity = omega (arith, c.add_number.ensures.capacity, c.add.ensures.capacity, c.add_number-2.ensures.capacity, c.add-2.ensures.capacity, c.add-3.ensures.capacity, c.add-4.ensures.capacity);
     }

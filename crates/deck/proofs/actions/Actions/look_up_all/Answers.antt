@@ -4,12 +4,12 @@ use Rattle.deck.specs.Acted.{acted_of}
 use Rattle.deck.proofs.Sweeps.{looked_stop, looked_more}
 use Rattle.deck.proofs.actions.Actions.look_up_all.Goals as goal
 
-pub returns-in_err-look-up : goal.returns-in_err-look-up
-returns-in_err-look-up c =
+pub returns-in_err-look_up : goal.returns-in_err-look_up
+returns-in_err-look_up c =
     let p = err_from_is_err_and c.from-residual.result c.from-residual.ensures.1 in
     rw (p.1, p.2)
-    (looked_stop c.args.text.now c.loop-k.k c.loop-k-test.true c.loop-k.invariant.0 _ (acted_of c.look-up.new.self) c.in-err-look-up.ensures)
+    (looked_stop c.args.text.now c.loop-k.k c.loop-k-test.true c.loop-k.invariant.0 _ (acted_of c.look_up.new.self) c.in_err-look_up.ensures)
 
 pub loop-k-preserved : goal.loop-k-preserved
 loop-k-preserved c =
-    looked_more c.args.text.now c.loop-k.k c.loop-k-test.true c.loop-k.invariant.0 (acted_of c.look-up.new.self) c.in-ok-look-up.ensures
+    looked_more c.args.text.now c.loop-k.k c.loop-k-test.true c.loop-k.invariant.0 (acted_of c.look_up.new.self) c.in_ok-look_up.ensures

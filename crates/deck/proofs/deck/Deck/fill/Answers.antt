@@ -10,29 +10,29 @@ use Rattle.deck.proofs.deck.Deck.fill.Goals as goal
 pub returns-in-Some : goal.returns-in-Some
 returns-in-Some c = told_cut c.args.text.now _ c.in-Some.ensures
 
-pub returns-in_err-take-in-all : goal.returns-in_err-take-in-all
-returns-in_err-take-in-all c =
+pub returns-in_err-take_in_all : goal.returns-in_err-take_in_all
+returns-in_err-take_in_all c =
     let p = err_from_is_err_and c.from-residual.result c.from-residual.ensures.1 in
     rw (p.1, p.2)
-    (told_first c.args.text.now (sym c.in-default.ensures) _ (defined_of c.take-in-all.new.self)
-    (table_of (record { text = c.args.self.now.text; definitions = c.take-in-all.new.self; actions = c.args.self.now.actions }))
-    c.in-err-take-in-all.ensures)
+    (told_first c.args.text.now (sym c.in_default.ensures) _ (defined_of c.take_in_all.new.self)
+    (table_of (record { text = c.args.self.now.text; definitions = c.take_in_all.new.self; actions = c.args.self.now.actions }))
+    c.in_err-take_in_all.ensures)
 
-pub returns-in_err-look-up-all : goal.returns-in_err-look-up-all
-returns-in_err-look-up-all c =
-    let p = err_from_is_err_and c.from-residual-in_err-look-up-all.result c.from-residual-in_err-look-up-all.ensures.1 in
+pub returns-in_err-look_up_all : goal.returns-in_err-look_up_all
+returns-in_err-look_up_all c =
+    let p = err_from_is_err_and c.from-residual-in_err-look_up_all.result c.from-residual-in_err-look_up_all.ensures.1 in
     rw (p.1, p.2)
-    (told_second c.args.text.now (sym c.in-default.ensures) _ (acted_of c.look-up-all.new.self)
-    (table_of (record { text = c.args.self.now.text; definitions = c.take-in-all.new.self; actions = c.look-up-all.new.self }))
-    c.in-ok-take-in-all.ensures.0 c.in-err-look-up-all.ensures)
+    (told_second c.args.text.now (sym c.in_default.ensures) _ (acted_of c.look_up_all.new.self)
+    (table_of (record { text = c.args.self.now.text; definitions = c.take_in_all.new.self; actions = c.look_up_all.new.self }))
+    c.in_ok-take_in_all.ensures.0 c.in_err-look_up_all.ensures)
 
 pub returns-in-Ok : goal.returns-in-Ok
 returns-in-Ok c =
     let text = c.args.text.now in
-    let e : vec_items c.extend-from-slice.new.self ≡ text =
+    let e : vec_items c.extend_from_slice.new.self ≡ text =
     c.in-Ok.ensures.items ∙ ap (λ (xs : List ℕ). xs ++ text) (ap (λ (t : Table). t.text) c.requires) in
-    let d = defined_of c.take-in-all.new.self in
-    let a = acted_of c.look-up-all.new.self in
-    let kept = told_none text (sym c.in-default.ensures) c.in-ok-take-in-all.ensures.0 c.in-ok-look-up-all.ensures.0 in
-    let table = table_is text (vec_items c.extend-from-slice.new.self) d a e c.in-ok-take-in-all.ensures.1 c.in-ok-look-up-all.ensures.1 in
+    let d = defined_of c.take_in_all.new.self in
+    let a = acted_of c.look_up_all.new.self in
+    let kept = told_none text (sym c.in_default.ensures) c.in_ok-take_in_all.ensures.0 c.in_ok-look_up_all.ensures.0 in
+    let table = table_is text (vec_items c.extend_from_slice.new.self) d a e c.in_ok-take_in_all.ensures.1 c.in_ok-look_up_all.ensures.1 in
     (kept, table, keeps text kept)

@@ -8,14 +8,14 @@ use Rattle.images.proofs.image.Image.unedited.Goals as goal
 pub invariant_of-result : goal.invariant_of-result
 invariant_of-result c =
     let n = length-unedited c.args.amount.picture.digits c.args.amount.count c.args.amount.picture.some in
-    let b : take c.args.amount.picture.digits c.put-unedited.new.buffer ≡ unedited c.args.amount.picture.digits c.args.amount.count =
-    ap (take c.args.amount.picture.digits) c.put-unedited.ensures ∙ front-before _ (unedited c.args.amount.picture.digits c.args.amount.count) c.args.amount.picture.digits n in
-    (c.put-unedited.array_long, (omega (arith, c.args.amount.picture.few), (rw b (of_unedited c.args.amount.picture.digits c.args.amount.count), tt)))
+    let b : take c.args.amount.picture.digits c.put_unedited.new.buffer ≡ unedited c.args.amount.picture.digits c.args.amount.count =
+    ap (take c.args.amount.picture.digits) c.put_unedited.ensures ∙ front-before _ (unedited c.args.amount.picture.digits c.args.amount.count) c.args.amount.picture.digits n in
+    record { long = c.put_unedited.array_long; fits = omega (arith, c.args.amount.picture.few); printed = rw b (of_unedited c.args.amount.picture.digits c.args.amount.count) }
 
 pub returns : goal.returns
 returns c =
     let n = length-unedited c.args.amount.picture.digits c.args.amount.count c.args.amount.picture.some in
     record {
-      bytes = ap (take c.args.amount.picture.digits) c.put-unedited.ensures ∙ front-before _ (unedited c.args.amount.picture.digits c.args.amount.count) c.args.amount.picture.digits n;
+      bytes = ap (take c.args.amount.picture.digits) c.put_unedited.ensures ∙ front-before _ (unedited c.args.amount.picture.digits c.args.amount.count) c.args.amount.picture.digits n;
       width = refl;
     }

@@ -10,8 +10,8 @@ returns c =
     let o : 1 ≤ nat_abs c.args.by.count = search rules in
     let z : eqb (nat_abs c.args.by.count) 0 ≡ false = grind (arith, nat_tests) in
     record {
-      count = c.store.ensures.count ∙ rw (c.is-negative.ensures, s, z) (settled_quotient c.args.rounding c.args.into.digits c.args.into.decimals c.args.self.count c.args.by.count
-          c.args.self.picture.decimals c.args.by.picture.decimals c.signed-by-dividend.result.count c.quotient-size.result
-          c.signed-by-dividend.ensures.count (c.quotient-size.ensures ∙ rw c.signed-by-dividend.ensures.picture refl));
+      count = c.store.ensures.count ∙ rw (c.is_negative.ensures, s, z) (settled_quotient c.args.rounding c.args.into.digits c.args.into.decimals c.args.self.count c.args.by.count
+          c.args.self.picture.decimals c.args.by.picture.decimals c.signed_by-dividend.result.count c.quotient_size.result
+          c.signed_by-dividend.ensures.count (c.quotient_size.ensures ∙ rw c.signed_by-dividend.ensures.picture refl));
       picture = c.store.ensures.picture;
     }

@@ -3,4 +3,4 @@ use Rattle.numbers.proofs.Tens.{ten_up}
 use Rattle.numbers.proofs.amount.Amount.zero.Goals as goal
 
 pub invariant_of-result : goal.invariant_of-result
-invariant_of-result c = (omega (arith, ten_up 1 c.args.picture.digits c.args.picture.some), tt)
+invariant_of-result c = record { fits = omega (arith, ten_up 1 c.args.picture.digits c.args.picture.some) }
