@@ -6,7 +6,7 @@ use Rattle.deck.proofs.actions.Actions.look_up_all.Goals as goal
 
 pub returns-in_err-look_up : goal.returns-in_err-look_up
 returns-in_err-look_up c =
-    let p = err_from_is_err_and c.from-residual.result c.from-residual.ensures.1 in
+    let p = err_from_is_err_and c.from_residual.result c.from_residual.ensures.1 in
     rw (p.1, p.2)
     (looked_stop c.args.text.now c.loop-k.k c.loop-k-test.true c.loop-k.invariant.0 _ (acted_of c.look_up.new.self) c.in_err-look_up.ensures)
 

@@ -12,7 +12,7 @@ returns-in-Some c = told_cut c.args.text.now _ c.in-Some.ensures
 
 pub returns-in_err-take_in_all : goal.returns-in_err-take_in_all
 returns-in_err-take_in_all c =
-    let p = err_from_is_err_and c.from-residual.result c.from-residual.ensures.1 in
+    let p = err_from_is_err_and c.from_residual.result c.from_residual.ensures.1 in
     rw (p.1, p.2)
     (told_first c.args.text.now (sym c.in_default.ensures) _ (defined_of c.take_in_all.new.self)
     (table_of (record { text = c.args.self.now.text; definitions = c.take_in_all.new.self; actions = c.args.self.now.actions }))
@@ -20,7 +20,7 @@ returns-in_err-take_in_all c =
 
 pub returns-in_err-look_up_all : goal.returns-in_err-look_up_all
 returns-in_err-look_up_all c =
-    let p = err_from_is_err_and c.from-residual-in_err-look_up_all.result c.from-residual-in_err-look_up_all.ensures.1 in
+    let p = err_from_is_err_and c.from_residual-in_err-look_up_all.result c.from_residual-in_err-look_up_all.ensures.1 in
     rw (p.1, p.2)
     (told_second c.args.text.now (sym c.in_default.ensures) _ (acted_of c.look_up_all.new.self)
     (table_of (record { text = c.args.self.now.text; definitions = c.take_in_all.new.self; actions = c.look_up_all.new.self }))

@@ -10,7 +10,7 @@ take_in-requires c = record { inside = search rules; few = search rules; defined
 
 pub returns-in_err-take_in : goal.returns-in_err-take_in
 returns-in_err-take_in c =
-    let p = err_from_is_err_and c.from-residual.result c.from-residual.ensures.1 in
+    let p = err_from_is_err_and c.from_residual.result c.from_residual.ensures.1 in
     rw (p.1, p.2)
     (taken_stop c.args.text.now c.loop-k.k c.loop-k-test.true c.loop-k.invariant.0 _ (defined_of c.take_in.new.self) (before_of c.take_in.new.seen) c.in_err-take_in.ensures)
 
