@@ -3,7 +3,7 @@ use images::EditCode;
 use operations::Operation;
 
 // What a deck card is, by its form letter and by the columns that part record cards from field cards.
-#[derive(Clone, Copy)]
+#[derive(Clone, Copy, PartialEq, Eq, Debug)]
 pub enum Kind {
     Comment,
     Record,
@@ -58,7 +58,7 @@ pub struct Rule {
 }
 
 // The size of a field: digits with decimals, or bytes of text.
-#[derive(Clone, Copy)]
+#[derive(Clone, Copy, PartialEq, Eq, Debug)]
 pub enum Shape {
     Number { digits: u16, decimals: u16 },
     Text { length: u16 },
@@ -137,7 +137,7 @@ pub struct CalculationCard {
 }
 
 // Whether a line is a heading, a detail or a total line.
-#[derive(Clone, Copy)]
+#[derive(Clone, Copy, PartialEq, Eq, Debug)]
 pub enum LineKind {
     Heading,
     Detail,

@@ -18,7 +18,7 @@ use Rattle.deck.specs.Acted.{Acted, acted_of, no_actions, act}
 use Rattle.deck.specs.Defined.{Defined, Before, defined_of, nothing, none_before, define, see}
 use Rattle.fields.specs.Fields.{Fields}
 use Rattle.deck.specs.Rules.{full, doubles}
-use Rattle.uses.specs.Uses.{uses_told}
+use Rattle.uses.specs.Uses.{unknowns, kinds}
 
 -- the columns of the card at place k, counted from 0, and how many cards there are
 abbrev pub card_at : List ℕ → ℕ → List ℕ
@@ -62,7 +62,7 @@ first_telling d b c = first (first_of b.highest c (layout_of (kind_of c)) ∷ fu
 
 -- the second telling of a card, by the whole field table: unknown names, kinds
 abbrev pub second_telling : Fields → List ℕ → Option column.Breach
-second_telling f c = uses_told f (card_of c)
+second_telling f c = first (unknowns f (card_of c) ∷ kinds f (card_of c) ∷ [])
 
 abbrev pub first_at : List ℕ → ℕ → Option Breach
 first_at text k = numbered k (first_telling (defined_by text k) (seen_by text k) (card_at text k))

@@ -7,7 +7,7 @@ use Rattle.cards.specs.declared.kinds.Shape.{Shape}
 use Rattle.cards.specs.declared.kinds.Shape.TheVariants.{Number, Text}
 use Rattle.cards.specs.declared.kinds.DeckCard.{DeckCard}
 use Rattle.cards.specs.declared.kinds.DeckCard.TheVariants.{Comment, Record, Field, Calculation, OutputRecord, OutputField}
-use Rattle.fields.specs.Fields.{Fields, is_known, shape_of, has_place_for}
+use Rattle.fields.specs.Fields.{Fields, is_known, shape_of}
 use Rattle.deck.specs.declared.kinds.Definition.{Definition}
 use Rattle.deck.specs.Defined.{Defined, Before, definition_of, level_shape}
 
@@ -25,10 +25,10 @@ go_together (Number m d) (Text n) = false
 go_together (Text m) (Number n e) = false
 go_together (Text m) (Text n) = m == n
 
--- a field that a card defines finds a place
+-- a field that is not known yet finds a place among 64
 abbrev pub has_place : Fields → Option Definition → Bool
 has_place f None = true
-has_place f (Some d) = has_place_for f d.name
+has_place f (Some d) = is_known f d.name || nat_lt (length f.names) 64
 
 -- a record type finds a place among 16
 abbrev pub full : Defined → Before → DeckCard → Option Breach

@@ -13,15 +13,17 @@ use columns::kinds::Indicator;
 use fields::FieldTable;
 use rules::{Breach, Refusal, find_indicator, find_name, first_of, rule};
 
-// The most record types that a deck may have.
+// The most fields and the most record types that a deck may have.
+const MOST_FIELDS: usize = 64;
+
 const MOST_TYPES: usize = 16;
 
-// A field that a card defines finds a place.
+// A field that is not known yet finds a place.
 fn has_place(fields: &FieldTable, definition: Option<Definition>) -> bool
     ensures { result ≡ has_place (fields_of fields.now) definition }
 {
     match definition {
-        Some(d) => fields.has_place(&d.name),
+        Some(d) => fields.find(&d.name).is_some() || fields.names.len() < MOST_FIELDS,
         None => true,
     }
 }

@@ -80,7 +80,7 @@ pub struct Output {
 }
 
 // The first breach of a deck: the refusal, the card, and the column; 0 stands for a whole deck or card.
-#[derive(Clone, Copy)]
+#[derive(Clone, Copy, PartialEq, Eq, Debug)]
 pub struct Breach {
     pub refusal: Refusal,
     pub card: usize,
@@ -88,7 +88,7 @@ pub struct Breach {
 }
 
 // Why no deck is in the table.
-#[derive(Clone, Copy)]
+#[derive(Clone, Copy, PartialEq, Eq, Debug)]
 pub enum ReadError {
     Refused(Breach),
     NoMemory,
@@ -102,7 +102,7 @@ pub struct Definition {
 }
 
 // A refusal in numbers: its own, the card and the column.
-#[derive(Clone, Copy)]
+#[derive(Clone, Copy, PartialEq, Eq, Debug)]
 pub struct Numbers {
     pub number: u8,
     pub card: usize,

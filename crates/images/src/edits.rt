@@ -2,7 +2,7 @@
 ghost use Rattle.std.specs.Prelude.{◌≡◌};
 ghost use Rattle.images.specs.Edits.{code_of, style, style_of};
 
-#[derive(Clone, Copy)]
+#[derive(Clone, Copy, PartialEq, Eq, Debug)]
 pub enum EditCode {
     One,
     Two,
@@ -15,7 +15,7 @@ pub enum EditCode {
 }
 
 // What stands behind the digits of an edited number.
-#[derive(Clone, Copy)]
+#[derive(Clone, Copy, PartialEq, Eq, Debug)]
 pub enum SignStyle {
     // Nothing: a minus is dropped.
     Omitted,
@@ -24,7 +24,7 @@ pub enum SignStyle {
 }
 
 // What an edit code asks for.
-#[derive(Clone, Copy)]
+#[derive(Clone, Copy, PartialEq, Eq, Debug)]
 pub struct EditStyle {
     // Commas between thousands.
     pub commas: bool,

@@ -7,7 +7,7 @@ ghost use Rattle.images.specs.Limits.{image_columns};
 pub const IMAGE_COLUMNS: usize = 16;
 
 // The first `width` of the bytes are the image.
-#[derive(Clone, Copy)]
+#[derive(Clone, Copy, Debug)]
 pub struct Image {
     pub(crate) bytes: [u8; IMAGE_COLUMNS],
     pub(crate) width: u8,

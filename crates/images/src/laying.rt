@@ -8,7 +8,7 @@ use crate::image::Image;
 pub const LINE_COLUMNS: usize = 132;
 
 // Why an image is not laid into a line.
-#[derive(Clone, Copy)]
+#[derive(Clone, Copy, PartialEq, Eq, Debug)]
 pub enum LayError {
     // The end is no column of a line.
     End,

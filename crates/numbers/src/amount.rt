@@ -7,7 +7,7 @@ use crate::picture::Picture;
 use crate::powers::ten;
 
 // A count is below ten to the power of its digits in size. Zero has no sign.
-#[derive(Clone, Copy)]
+#[derive(Clone, Copy, PartialEq, Eq, Debug)]
 pub struct Amount {
     pub count: i64,
     pub picture: Picture,

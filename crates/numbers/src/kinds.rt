@@ -1,7 +1,7 @@
 // The plain types of the crate: how to round, what a call can refuse, and what a last column counts.
 
 // How an exact value becomes a count of the result's last decimal place.
-#[derive(Clone, Copy)]
+#[derive(Clone, Copy, PartialEq, Eq, Debug)]
 pub enum Rounding {
     // What lies below the last place is dropped: toward zero.
     Cut,
@@ -10,7 +10,7 @@ pub enum Rounding {
 }
 
 // Why columns do not read as an amount.
-#[derive(Clone, Copy)]
+#[derive(Clone, Copy, PartialEq, Eq, Debug)]
 pub enum ReadError {
     // There are not as many columns as the picture has digits.
     Width,
@@ -19,7 +19,7 @@ pub enum ReadError {
 }
 
 // Why there is no result.
-#[derive(Clone, Copy)]
+#[derive(Clone, Copy, PartialEq, Eq, Debug)]
 pub enum ArithmeticError {
     // The result has more digits than its picture.
     TooWide,
@@ -29,7 +29,7 @@ pub enum ArithmeticError {
 }
 
 // What the last column of a field counts, and whether it makes the field negative.
-#[derive(Clone, Copy)]
+#[derive(Clone, Copy, PartialEq, Eq, Debug)]
 pub(crate) struct Punch {
     pub negative: bool,
     pub digit: u8,

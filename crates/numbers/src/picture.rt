@@ -6,7 +6,7 @@ ghost use Rattle.numbers.specs.Limits.{is_picture, widest};
 pub const WIDEST: u8 = 9;
 
 // Only sound pictures exist: `new` is the way to one.
-#[derive(Clone, Copy)]
+#[derive(Clone, Copy, PartialEq, Eq, Debug)]
 pub struct Picture {
     pub digits: u8,
     pub decimals: u8,
