@@ -1,8 +1,7 @@
 -- Every column from 1 to 80 belongs to an entry of each layout, by one test that computes.
-use Rattle.std.proofs.Common.{◌≡◌, ℕ, zero, suc, ◌+◌, ◌-◌, ◌<◌, ◌≤◌, Bool, true, false, ◌&&◌, T, List, sym, ◌∙◌, subst, le_of_suc-le-suc, not-suc-le-zero, add-zero, add-suc, suc-add, arith}
-use Rattle.cards.specs.declared.kinds.Kind.{Kind}
+use Rattle.std.proofs.Common.{◌≡◌, ℕ, zero, suc, ◌+◌, ◌-◌, ◌<◌, ◌≤◌, Bool, true, false, ◌&&◌, T, sym, ◌∙◌, subst, le_of_suc-le-suc, not-suc-le-zero, add-zero, add-suc, suc-add, arith}
 use Rattle.cards.specs.declared.kinds.Kind.TheVariants.{Comment, Record, Field, Calculation, OutputRecord, OutputField, Unknown}
-use Rattle.cards.specs.Layouts.{layout_of, is_read, belongs, Covers}
+use Rattle.cards.specs.Layouts.{layout_of, belongs, Covers}
 
 left : (a b : Bool) → T (a && b) → T a
 left true b t = tt

@@ -1,5 +1,5 @@
 -- Bytes 32 to 126 are the characters that a card or a line may hold.
-use Rattle.std.specs.Prelude.{ℕ, ◌+◌, Bool, true, false, cond, ◌&&◌, List, [], ◌∷◌, Some, None, Option, nat_le}
+use Rattle.std.specs.Prelude.{ℕ, ◌+◌, Bool, true, cond, ◌&&◌, List, [], ◌∷◌, Some, None, Option, nat_le}
 
 abbrev pub prints : ℕ → Bool
 prints b = nat_le 32 b && nat_le b 126

@@ -1,5 +1,5 @@
 -- Columns of a card, classes of bytes, and how many bytes of a class stand first.
-use Rattle.std.specs.Prelude.{ℕ, suc, ◌-◌, Bool, true, false, cond, not, ◌&&◌, ◌||◌, List, [], ◌∷◌, length, take, drop, ◌==◌, nat_le}
+use Rattle.std.specs.Prelude.{ℕ, suc, ◌-◌, Bool, cond, not, ◌&&◌, ◌||◌, List, [], ◌∷◌, length, take, drop, ◌==◌, nat_le}
 use Rattle.characters.specs.Printable.{prints}
 use Rattle.columns.specs.declared.kinds.Class.{Class}
 use Rattle.columns.specs.declared.kinds.Class.TheVariants.{Blank, Digit, Letter, LetterOrDigit, Quotable, Printable}

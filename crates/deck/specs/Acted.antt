@@ -1,5 +1,5 @@
 -- What the calculation and output cards of a deck ask for, with every name looked up in the field table.
-use Rattle.std.specs.Prelude.{ℕ, ◌+◌, ◌*◌, Bool, true, false, cond, List, [], ◌∷◌, ◌++◌, length, is_some, Some, None, vec_items, Option}
+use Rattle.std.specs.Prelude.{ℕ, ◌+◌, ◌*◌, Bool, true, false, List, [], ◌∷◌, ◌++◌, length, is_some, vec_items}
 use Rattle.std.specs.Option.{option_map}
 use Rattle.cards.specs.declared.kinds.Factor.{Factor}
 use Rattle.cards.specs.declared.kinds.Factor.TheVariants as factor

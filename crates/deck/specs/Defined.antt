@@ -1,10 +1,9 @@
 -- What the cards of a deck define: fields, control levels, record types and their inputs.
-use Rattle.std.specs.Prelude.{ℕ, ◌-◌, max, Bool, true, false, cond, not, ◌&&◌, List, [], ◌∷◌, ◌++◌, length, replicate, is_some, Some, None, vec_items, Option, nat_lt, slice_index_or, slice_set}
+use Rattle.std.specs.Prelude.{ℕ, ◌-◌, max, cond, not, ◌&&◌, List, [], ◌∷◌, ◌++◌, length, replicate, is_some, Some, None, vec_items, Option, nat_lt, slice_index_or, slice_set}
 use Rattle.std.specs.Option.{option_to_list}
 use Rattle.cards.specs.declared.kinds.Shape.{Shape}
 use Rattle.cards.specs.declared.kinds.RecordCard.{RecordCard}
 use Rattle.cards.specs.declared.kinds.FieldCard.{FieldCard}
-use Rattle.cards.specs.declared.kinds.CalculationCard.{CalculationCard}
 use Rattle.cards.specs.declared.kinds.DeckCard.{DeckCard}
 use Rattle.cards.specs.declared.kinds.DeckCard.TheVariants.{Comment, Record, Field, Calculation, OutputRecord, OutputField}
 use Rattle.deck.specs.declared.kinds.RecordType.{RecordType}

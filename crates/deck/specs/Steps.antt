@@ -1,12 +1,11 @@
 -- How far the reading of a deck has come, by the answer of each of its parts.
-use Rattle.std.specs.Prelude.{◌≡◌, ℕ, suc, List, Some, None, Ok, Err, Option, Result}
+use Rattle.std.specs.Prelude.{◌≡◌, ℕ, suc, List, Some, None, Ok, Err, Result}
 use Rattle.rules.specs.Rules.{first, IsFirst}
 use Rattle.deck.specs.declared.kinds.ReadError.{ReadError}
 use Rattle.deck.specs.declared.kinds.ReadError.TheVariants.{Refused, NoMemory}
 use Rattle.deck.specs.Acted.{Acted}
 use Rattle.deck.specs.Decks.{first_at, second_at, first_sweep, second_sweep, defined_by, seen_by, acted_by, rules, count, Table, deck_of}
 use Rattle.deck.specs.Defined.{Defined, Before}
-use Rattle.deck.specs.Laws.{Keeps}
 
 -- the card at place k was taken in, or its first telling is the answer
 abbrev pub TakenIn : List ℕ → ℕ → Result (Unit {0}) ReadError → Defined → Before → Type 0
@@ -32,6 +31,6 @@ AllLookedUp text (Err NoMemory) a = Unit {0}
 
 -- the table was filled, or the first breach is the answer
 abbrev pub Filled : List ℕ → Result (Unit {0}) ReadError → Table → Type 0
-Filled text (Ok x) t = IsFirst (rules text) None × (t ≡ deck_of text) × Keeps text
+Filled text (Ok x) t = IsFirst (rules text) None × (t ≡ deck_of text)
 Filled text (Err (Refused b)) t = IsFirst (rules text) (Some b)
 Filled text (Err NoMemory) t = Unit {0}

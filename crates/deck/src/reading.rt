@@ -178,7 +178,8 @@ impl Deck {
     // Fills an empty table, unless the deck tells something.
     fn fill(&mut self, heap: Global, text: &[u8]) -> Result<(), ReadError>
         requires { table_of self.old ≡ empty_table }
-        ensures { Filled text.now result (table_of self.new) }
+        ensures answer { Filled text.now result (table_of self.new) }
+        ensures keeps { ReadKeeps text.now result }
     {
         if let Some(breach) = tell_size(text) {
             return Err(ReadError::Refused(breach));

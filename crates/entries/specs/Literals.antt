@@ -1,5 +1,5 @@
 -- Literals: text between apostrophes, and numbers with at most one point.
-use Rattle.std.specs.Prelude.{ℕ, ◌+◌, ◌-◌, Bool, true, false, cond, ◌&&◌, List, ◌++◌, length, take, drop, ℤ, pos, neg_ℤ, Some, None, Option, ◌==◌, nat_le, slice_index, slice_range}
+use Rattle.std.specs.Prelude.{ℕ, ◌+◌, ◌-◌, Bool, cond, ◌&&◌, List, length, take, drop, ℤ, pos, neg_ℤ, Some, None, Option, ◌==◌, nat_le, slice_index, slice_range}
 use Rattle.columns.specs.declared.kinds.Class.TheVariants.{Digit, Quotable}
 use Rattle.columns.specs.declared.kinds.Literal.{Literal}
 use Rattle.columns.specs.Classes.{run, past, is_blank, within}

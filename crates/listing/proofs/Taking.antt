@@ -1,10 +1,9 @@
 -- The steps of taking the cards of a deck from a hopper.
-use Rattle.std.proofs.Common.{◌≡◌, ℕ, ◌+◌, ◌<◌, Bool, true, false, List, [], ◌∷◌, ◌++◌, length, Some, None, Ok, Err, Option, Result, sym, refl, ap, ◌∙◌, append_assoc, append-nil, arith}
+use Rattle.std.proofs.Common.{◌≡◌, ℕ, ◌<◌, true, false, List, [], ◌∷◌, ◌++◌, length, Some, None, Ok, Err, Option, sym, refl, ap, ◌∙◌, append_assoc, append-nil, arith}
 use Rattle.devices.specs.declared.card.Card.{Card}
 use Rattle.devices.specs.Feeding.{fed_of, rest_of}
-use Rattle.listing.specs.declared.deck_cards.DeckEnd.{DeckEnd}
-use Rattle.listing.specs.declared.deck_cards.DeckEnd.TheVariants.{Mark, End, Fault, NoMemory}
-use Rattle.listing.specs.DeckCards.{is_mark, deck_end, deck_bytes, data_cards, end_of}
+use Rattle.listing.specs.declared.deck_cards.DeckEnd.TheVariants.{Mark}
+use Rattle.listing.specs.DeckCards.{is_mark, deck_end, deck_bytes, data_cards}
 
 module _ {F : Type 0} where
   -- a card that was fed was the first

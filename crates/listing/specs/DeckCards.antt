@@ -1,5 +1,5 @@
 -- The cards of a deck in front of the data: all up to a card with `/*` in its first two columns and blanks behind them.
-use Rattle.std.specs.Prelude.{◌≡◌, ℕ, Bool, true, false, cond, ◌&&◌, List, [], ◌∷◌, ◌++◌, Some, None, Option, ◌==◌, slice_index}
+use Rattle.std.specs.Prelude.{◌≡◌, ℕ, Bool, cond, ◌&&◌, List, [], ◌∷◌, ◌++◌, Some, None, Option, ◌==◌, slice_index}
 use Rattle.columns.specs.Classes.{columns, is_blank}
 use Rattle.devices.specs.declared.card.Card.{Card}
 use Rattle.listing.specs.declared.deck_cards.DeckEnd.{DeckEnd}

@@ -1,5 +1,5 @@
 -- What a card that keeps its rules means, read off its columns.
-use Rattle.std.specs.Prelude.{ℕ, ◌+◌, Bool, true, false, cond, not, List, [], ◌∷◌, Some, None, Option, ◌==◌, slice_index}
+use Rattle.std.specs.Prelude.{ℕ, ◌+◌, cond, not, List, [], ◌∷◌, Some, None, Option, ◌==◌, slice_index}
 use Rattle.std.specs.Option.{unwrap_or}
 use Rattle.columns.specs.Classes.{columns, is_blank}
 use Rattle.entries.specs.Entries.{is_name, value_of}

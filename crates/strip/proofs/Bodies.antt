@@ -1,10 +1,10 @@
 -- One line written and read again.
-use Rattle.std.proofs.Common.{◌≡◌, ℕ, ◌+◌, ◌/◌, ◌%◌, ◌<◌, ◌≤◌, Bool, true, false, cond, not, ◌&&◌, eqb, ltb, List, [], ◌∷◌, ◌++◌, length, refl, ◌∙◌, arith, length-append}
+use Rattle.std.proofs.Common.{◌≡◌, ℕ, ◌+◌, ◌/◌, ◌%◌, ◌<◌, ◌≤◌, Bool, true, false, cond, eqb, ltb, List, [], ◌∷◌, ◌++◌, length, refl, arith, length-append}
 use Rattle.std.proofs.lemmas.Bool.Decides.{nat_tests}
 use Rattle.characters.specs.Printable.{printable}
 use Rattle.devices.specs.Printed.{Printed}
 use Rattle.strip.specs.GoodLines.{good}
-use Rattle.strip.specs.Strips.{numeral, joined_to, trimmed, body, rendered}
+use Rattle.strip.specs.Strips.{numeral, joined_to, trimmed, body}
 use Rattle.strip.specs.StripReading.{read_number, past_number, padded, read_line, Longest}
 use Rattle.hoppers.specs.TextLines.{no_end}
 use Rattle.hoppers.proofs.Splits.{no_end-append}

@@ -1,7 +1,7 @@
 -- Lines one after another on a strip.
-use Rattle.std.proofs.Common.{◌≡◌, ℕ, ◌+◌, ◌-◌, ◌<◌, ◌≤◌, Bool, true, false, ◌&&◌, eqb, List, [], ◌∷◌, ◌++◌, map, length, take, drop, Some, None, vec_items, Option, sym, refl, ap, ◌∙◌, append_assoc, append-nil, arith}
+use Rattle.std.proofs.Common.{◌≡◌, ℕ, ◌+◌, ◌-◌, ◌≤◌, Bool, true, false, ◌&&◌, eqb, List, [], ◌∷◌, ◌++◌, map, length, take, drop, Some, None, vec_items, Option, sym, refl, ap, ◌∙◌, append_assoc, append-nil, arith}
 use Rattle.std.proofs.lemmas.Bool.Decides.{nat_tests}
-use Rattle.std.proofs.lemmas.List.{take_rest, drop-append-le, drop-drop, drop_all, drop_at, length-append, length-drop, length-take-le, nil_from_length}
+use Rattle.std.proofs.lemmas.List.{take_rest, drop-append-le, drop-drop, drop_all, drop_at, length-append, length-drop, length-take-le}
 use Rattle.devices.specs.Printed.{Printed}
 use Rattle.strip.specs.GoodLines.{good, all_good}
 use Rattle.strip.specs.Strips.{body, rendered, strips}

@@ -1,4 +1,4 @@
-use Rattle.std.proofs.Common.{◌≡◌, sym, ◌∙◌, arith}
+use Rattle.std.proofs.Common.{sym, ◌∙◌, arith}
 use Rattle.cards.proofs.Walking.{walk_more, walk_stop, walk_end}
 use Rattle.cards.proofs.tells.walk.Goals as goal
 

@@ -1,4 +1,4 @@
-use Rattle.std.proofs.Common.{◌≡◌, ℕ, List, sym, arith, rules}
+use Rattle.std.proofs.Common.{ℕ, List, sym, arith}
 use Rattle.std.proofs.lemmas.List.{at_drop_all}
 use Rattle.columns.proofs.classes.after.Goals as goal
 

@@ -1,4 +1,4 @@
-use Rattle.std.proofs.Common.{◌^◌, ◌<◌, ◌≤◌, length, arith, rules}
+use Rattle.std.proofs.Common.{◌^◌, ◌<◌, ◌≤◌, length, rules}
 use Rattle.entries.proofs.Counting.{narrow}
 use Rattle.entries.proofs.literals.literal.Goals as goal
 

@@ -1,4 +1,4 @@
-use Rattle.std.proofs.Common.{◌≡◌, sym, ◌∙◌, arith}
+use Rattle.std.proofs.Common.{sym, ◌∙◌, arith}
 use Rattle.rules.proofs.Firsts.{first_more, first_stop, first_end}
 use Rattle.rules.proofs.telling.first_told.Goals as goal
 

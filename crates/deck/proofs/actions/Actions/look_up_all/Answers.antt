@@ -1,4 +1,3 @@
-use Rattle.std.proofs.Common.{◌≡◌}
 use Rattle.std.proofs.lemmas.Result.{err_from_is_err_and}
 use Rattle.deck.specs.Acted.{acted_of}
 use Rattle.deck.proofs.Sweeps.{looked_stop, looked_more}

@@ -1,4 +1,4 @@
-use Rattle.std.proofs.Common.{◌≡◌, ℕ, List, ◌++◌, vec_items, sym, ap, ◌∙◌, rules}
+use Rattle.std.proofs.Common.{◌≡◌, ℕ, List, ◌++◌, vec_items, sym, ap, ◌∙◌}
 use Rattle.std.proofs.lemmas.Result.{err_from_is_err_and}
 use Rattle.deck.specs.Acted.{acted_of}
 use Rattle.deck.specs.Defined.{defined_of}
@@ -7,19 +7,19 @@ use Rattle.deck.proofs.Keeping.{keeps}
 use Rattle.deck.proofs.Sweeps.{told_cut, told_first, told_second, told_none, table_is}
 use Rattle.deck.proofs.deck.Deck.fill.Goals as goal
 
-pub returns-in-Some : goal.returns-in-Some
-returns-in-Some c = told_cut c.args.text.now _ c.in-Some.ensures
+pub returns-in-Some-clause-answer : goal.returns-in-Some-clause-answer
+returns-in-Some-clause-answer c = told_cut c.args.text.now _ c.in-Some.ensures
 
-pub returns-in_err-take_in_all : goal.returns-in_err-take_in_all
-returns-in_err-take_in_all c =
+pub returns-in_err-take_in_all-clause-answer : goal.returns-in_err-take_in_all-clause-answer
+returns-in_err-take_in_all-clause-answer c =
     let p = err_from_is_err_and c.from_residual.result c.from_residual.ensures.1 in
     rw (p.1, p.2)
     (told_first c.args.text.now (sym c.in_default.ensures) _ (defined_of c.take_in_all.new.self)
     (table_of (record { text = c.args.self.now.text; definitions = c.take_in_all.new.self; actions = c.args.self.now.actions }))
     c.in_err-take_in_all.ensures)
 
-pub returns-in_err-look_up_all : goal.returns-in_err-look_up_all
-returns-in_err-look_up_all c =
+pub returns-in_err-look_up_all-clause-answer : goal.returns-in_err-look_up_all-clause-answer
+returns-in_err-look_up_all-clause-answer c =
     let p = err_from_is_err_and c.from_residual-in_err-look_up_all.result c.from_residual-in_err-look_up_all.ensures.1 in
     rw (p.1, p.2)
     (told_second c.args.text.now (sym c.in_default.ensures) _ (acted_of c.look_up_all.new.self)
@@ -35,4 +35,4 @@ returns-in-Ok c =
     let a = acted_of c.look_up_all.new.self in
     let kept = told_none text (sym c.in_default.ensures) c.in_ok-take_in_all.ensures.0 c.in_ok-look_up_all.ensures.0 in
     let table = table_is text (vec_items c.extend_from_slice.new.self) d a e c.in_ok-take_in_all.ensures.1 c.in_ok-look_up_all.ensures.1 in
-    (kept, table, keeps text kept)
+    record { answer = (kept, table); keeps = keeps text kept }

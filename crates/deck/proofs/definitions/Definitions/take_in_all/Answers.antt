@@ -1,6 +1,5 @@
-use Rattle.std.proofs.Common.{◌≡◌, sym, ap, ◌∙◌, arith, rules}
+use Rattle.std.proofs.Common.{rules}
 use Rattle.std.proofs.lemmas.Result.{err_from_is_err_and}
-use Rattle.deck.specs.Decks.{count, first_at, defined_by}
 use Rattle.deck.specs.Defined.{defined_of, before_of}
 use Rattle.deck.proofs.Sweeps.{taken_stop, taken_more}
 use Rattle.deck.proofs.definitions.Definitions.take_in_all.Goals as goal

@@ -1,4 +1,4 @@
-use Rattle.std.proofs.Common.{sym, arith, rules}
+use Rattle.std.proofs.Common.{sym, rules}
 use Rattle.devices.proofs.Columns.{found_within, none_found}
 use Rattle.devices.proofs.line.Line.new.Goals as goal
 

@@ -1,6 +1,5 @@
 use Rattle.std.proofs.Common.{deque_items, rules}
 use Rattle.std.proofs.lemmas.List.{nil_from_length}
-use Rattle.line_tray.proofs.Places.{lines_held}
 use Rattle.line_tray.proofs.printing.LineTrayPrinter.tear_off.Goals as goal
 
 pub returns-in-None : goal.returns-in-None
