@@ -6,6 +6,6 @@
 #[cfg(test)]
 mod cards_listed;
 #[cfg(test)]
-mod hoppers;
+mod feeding;
 #[cfg(test)]
 mod printers;

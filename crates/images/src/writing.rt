@@ -5,7 +5,7 @@ ghost use Rattle.std.specs.Option.{option_to_list};
 ghost use Rattle.images.specs.Limits.{image_columns};
 ghost use Rattle.numbers.specs.Signs.{negative};
 ghost use Rattle.images.specs.Edits.{sign_width};
-ghost use Rattle.images.specs.Images.{digits as digitsOf, mark, text, blanked, sign_bytes, edited_width, unedited, overpunch};
+ghost use Rattle.images.specs.Images.{digits as digits_of, mark, text, blanked, sign_bytes, edited_width, unedited, overpunch};
 ghost use Rattle.images.specs.Lines.{before};
 
 use crate::edits::{EditStyle, SignStyle};
@@ -52,7 +52,7 @@ pub(crate) fn put_edited(
 )
     requires first { edited_width style amount.picture.digits amount.picture.decimals ≤ end }
     requires last { end ≤ image_columns }
-    ensures { buffer.new ≡ before buffer.old end (blanked (text style.commas amount.picture.decimals (digitsOf amount.picture.digits (unsigned_abs amount.count))) ++ sign_bytes style.sign (negative amount.count)) }
+    ensures { buffer.new ≡ before buffer.old end (blanked (text style.commas amount.picture.decimals (digits_of amount.picture.digits (unsigned_abs amount.count))) ++ sign_bytes style.sign (negative amount.count)) }
 {
     let marks = Marks {
         commas: style.commas,
@@ -71,10 +71,10 @@ fn put_digits(
     digits: u8,
     size: u64,
 ) -> usize
-    requires first { length (text marks.commas marks.decimals (digitsOf digits size)) ≤ end }
+    requires first { length (text marks.commas marks.decimals (digits_of digits size)) ≤ end }
     requires last { end ≤ image_columns }
-    ensures at { result ≡ end - length (text marks.commas marks.decimals (digitsOf digits size)) }
-    ensures after { buffer.new ≡ before buffer.old end (text marks.commas marks.decimals (digitsOf digits size)) }
+    ensures at { result ≡ end - length (text marks.commas marks.decimals (digits_of digits size)) }
+    ensures after { buffer.new ≡ before buffer.old end (text marks.commas marks.decimals (digits_of digits size)) }
 {
     let mut at = end;
     let mut rest = size;

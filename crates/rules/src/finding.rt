@@ -6,7 +6,7 @@ use columns::kinds::{Indicator, Name};
 // The place of the first entry that equals the one sought, for any kind of entry that has an equality.
 pub fn first_equal<T: PartialEq>(entries: &[T], sought: &T) -> Option<usize>
     ensures within { IfSome result (λ i. i < length entries.now) }
-    ensures first { First (λ y. (λ r'. r' ≡ T.PartialEq.eq y sought.now)) entries.now result }
+    ensures first { First (λ y b. b ≡ T.PartialEq.eq y sought.now) entries.now result }
 {
     for (i, y) in entries.iter().enumerate() {
         if *y == *sought {
