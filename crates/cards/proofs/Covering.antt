@@ -16,17 +16,17 @@ abbrev every : (ℕ → Bool) → ℕ → ℕ → Bool
 every f i zero = true
 every f i (suc n) = f i && every f (suc i) n
 
-every-at : (f : ℕ → Bool) (n i : ℕ) → T (every f i n) → (k : ℕ) → k < n → T (f (i + k))
-every-at f zero i t k h = absurd (not-suc-le-zero h)
-every-at f (suc n) i t zero h = subst (λ (m : ℕ). T (f m)) (sym (add-zero i)) (left (f i) (every f (suc i) n) t)
-every-at f (suc n) i t (suc k) h =
+every_at : (f : ℕ → Bool) (n i : ℕ) → T (every f i n) → (k : ℕ) → k < n → T (f (i + k))
+every_at f zero i t k h = absurd (not-suc-le-zero h)
+every_at f (suc n) i t zero h = subst (λ (m : ℕ). T (f m)) (sym (add-zero i)) (left (f i) (every f (suc i) n) t)
+every_at f (suc n) i t (suc k) h =
     subst (λ (m : ℕ). T (f m)) (suc-add i k ∙ sym (add-suc i k))
-    (every-at f n (suc i) (right (f i) (every f (suc i) n) t) k (le_of_suc-le-suc h))
+    (every_at f n (suc i) (right (f i) (every f (suc i) n) t) k (le_of_suc-le-suc h))
 
 every_column : (f : ℕ → Bool) → T (every f 1 80) → (column : ℕ) → 1 ≤ column → column ≤ 80 → T (f column)
 every_column f t column low high =
     let e : 1 + (column - 1) ≡ column = omega arith in
-    subst (λ (m : ℕ). T (f m)) e (every-at f 80 1 t (column - 1) (omega arith))
+    subst (λ (m : ℕ). T (f m)) e (every_at f 80 1 t (column - 1) (omega arith))
 
 pub covers : Covers 80
 covers Comment column read = absurd read

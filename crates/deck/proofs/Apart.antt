@@ -20,34 +20,34 @@ use Rattle.deck.specs.Decks.{card_at, count, first_telling, first_at, first_swee
 use Rattle.deck.specs.Defined.{Defined, Before, definition_of, see}
 use Rattle.deck.specs.Laws.{card_in, SameType, rank_at, Accepted}
 use Rattle.deck.specs.Rules.{is_like, is_new_level, fits_level, full, doubles}
-use Rattle.deck.proofs.Resolved.{not_false, kept-head, kept-rest, kept, unnumbered}
+use Rattle.deck.proofs.Resolved.{not_false, kept_head, kept_rest, kept, unnumbered}
 
 -- in an accepted deck no card tells anything in the first sweep
-pub first-kept : (text : List ℕ) → Accepted text → (k : ℕ) → k < count text → first_at text k ≡ None
-first-kept text a k h =
+pub first_kept : (text : List ℕ) → Accepted text → (k : ℕ) → k < count text → first_at text k ≡ None
+first_kept text a k h =
     let l : k < length (first_sweep text) = subst (λ (n : ℕ). k < n) (sym (length-map-range_with_len (first_at text) 0 (count text))) h in
     sym (get_or-map-range_with_len (first_at text) 0 (count text) k k None h (omega arith))
     ∙ sym (get_or_append_left (first_sweep text) (second_sweep text) None k l)
     ∙ a (suc k)
 
 -- and so neither a full table nor a double
-rules-kept : (text : List ℕ) → Accepted text → (k : ℕ) → k < count text → first (full (defined_by text k) (seen_by text k) (card_in text k) ∷ doubles (defined_by text k) (seen_by text k) (card_in text k) ∷ []) ≡ None
-rules-kept text a k h =
+rules_kept : (text : List ℕ) → Accepted text → (k : ℕ) → k < count text → first (full (defined_by text k) (seen_by text k) (card_in text k) ∷ doubles (defined_by text k) (seen_by text k) (card_in text k) ∷ []) ≡ None
+rules_kept text a k h =
     let d = defined_by text k in
     let b = seen_by text k in
     let c = card_in text k in
     let p = punches.first_of b.highest (card_at text k) (layout_of (kind_of (card_at text k))) in
-    kept-rest p (full d b c ∷ doubles d b c ∷ []) (unnumbered k (first_telling d b (card_at text k)) (first-kept text a k h))
+    kept_rest p (full d b c ∷ doubles d b c ∷ []) (unnumbered k (first_telling d b (card_at text k)) (first_kept text a k h))
 
-pub full-kept : (text : List ℕ) → Accepted text → (k : ℕ) → k < count text → full (defined_by text k) (seen_by text k) (card_in text k) ≡ None
-full-kept text a k h = kept-head (full (defined_by text k) (seen_by text k) (card_in text k)) (doubles (defined_by text k) (seen_by text k) (card_in text k) ∷ []) (rules-kept text a k h)
+pub full_kept : (text : List ℕ) → Accepted text → (k : ℕ) → k < count text → full (defined_by text k) (seen_by text k) (card_in text k) ≡ None
+full_kept text a k h = kept_head (full (defined_by text k) (seen_by text k) (card_in text k)) (doubles (defined_by text k) (seen_by text k) (card_in text k) ∷ []) (rules_kept text a k h)
 
-pub doubles-kept : (text : List ℕ) → Accepted text → (k : ℕ) → k < count text → doubles (defined_by text k) (seen_by text k) (card_in text k) ≡ None
-doubles-kept text a k h =
+pub doubles_kept : (text : List ℕ) → Accepted text → (k : ℕ) → k < count text → doubles (defined_by text k) (seen_by text k) (card_in text k) ≡ None
+doubles_kept text a k h =
     let d = defined_by text k in
     let b = seen_by text k in
     let c = card_in text k in
-    kept-head (doubles d b c) [] (kept-rest (full d b c) (doubles d b c ∷ []) (rules-kept text a k h))
+    kept_head (doubles d b c) [] (kept_rest (full d b c) (doubles d b c ∷ []) (rules_kept text a k h))
 
 -- what is found stays found where more entries follow
 module _ {X : Type 0} (t : X → Bool) where
@@ -130,8 +130,8 @@ level_new : (b : Before) (rank l : ℕ) (f : FieldCard) → f.level ≡ Some l �
 level_new b rank l f e =
     subst (λ (o : Option ℕ). is_some (place_of_indicator (b.levels ++ option_to_list o) l) ≡ true) (sym e) (found_last (λ y. eqb y l) b.levels l (same_number l))
 
-level-seen : (text : List ℕ) (i j : ℕ) → i < j → SameType text i j → (f : FieldCard) → card_in text i ≡ Field f → (l : ℕ) → f.level ≡ Some l → is_some (place_of_indicator (seen_by text j).levels l) ≡ true
-level-seen text i j h s f e l v =
+level_seen : (text : List ℕ) (i j : ℕ) → i < j → SameType text i j → (f : FieldCard) → card_in text i ≡ Field f → (l : ℕ) → f.level ≡ Some l → is_some (place_of_indicator (seen_by text j).levels l) ≡ true
+level_seen text i j h s f e l v =
     seen (λ y. eqb y l) (λ b. b.levels) NoRecord (level_still l) text i
     (λ b rank. subst (λ (c : DeckCard). is_some (place_of_indicator (see b rank c).levels l) ≡ true) (sym e) (level_new b rank l f v))
     j h s
@@ -140,11 +140,11 @@ both : (b : Bool) → not b ≡ true → b ≡ true → ⊥
 both true h k = not_false h
 both false h k = not_false k
 
-pub types-apart : (text : List ℕ) → Accepted text → (i j : ℕ) → i < j → j < count text → (r s : RecordCard) → card_in text i ≡ Record r → card_in text j ≡ Record s → r.indicator ≡ s.indicator → ⊥
-types-apart text a i j h l r s ci cj e =
+pub types_apart : (text : List ℕ) → Accepted text → (i j : ℕ) → i < j → j < count text → (r s : RecordCard) → card_in text i ≡ Record r → card_in text j ≡ Record s → r.indicator ≡ s.indicator → ⊥
+types_apart text a i j h l r s ci cj e =
     let d = defined_by text j in
     let b = seen_by text j in
-    let told = subst (λ (c : DeckCard). doubles d b c ≡ None) cj (doubles-kept text a j l) in
+    let told = subst (λ (c : DeckCard). doubles d b c ≡ None) cj (doubles_kept text a j l) in
     both (is_some (place_of_indicator b.indicators s.indicator))
     (kept Double 19 (not (is_some (place_of_indicator b.indicators s.indicator))) told)
     (subst (λ (n : ℕ). is_some (place_of_indicator b.indicators n) ≡ true) e (indicator_seen text i j h r ci))
@@ -163,20 +163,20 @@ new_name d b g e =
     let like = is_like d.fields (definition_of (Field g)) in
     let new = not (is_some (place_of_name b.names g.name)) in
     let level = is_new_level b.levels g.level && fits_level d.levels g.level g.shape in
-    right like new (kept Double 53 (like && new) (kept-head (rule Double 53 (like && new)) (rule Double 59 level ∷ []) e))
+    right like new (kept Double 53 (like && new) (kept_head (rule Double 53 (like && new)) (rule Double 59 level ∷ []) e))
 
 new_level : (d : Defined) (b : Before) (g : FieldCard) → doubles d b (Field g) ≡ None → is_new_level b.levels g.level ≡ true
 new_level d b g e =
     let name = is_like d.fields (definition_of (Field g)) && not (is_some (place_of_name b.names g.name)) in
     let new = is_new_level b.levels g.level in
     let fits = fits_level d.levels g.level g.shape in
-    left new fits (kept Double 59 (new && fits) (kept-head (rule Double 59 (new && fits)) [] (kept-rest (rule Double 53 name) (rule Double 59 (new && fits) ∷ []) e)))
+    left new fits (kept Double 59 (new && fits) (kept_head (rule Double 59 (new && fits)) [] (kept_rest (rule Double 53 name) (rule Double 59 (new && fits) ∷ []) e)))
 
 pub names_once : (text : List ℕ) → Accepted text → (i j : ℕ) → i < j → j < count text → SameType text i j → (f g : FieldCard) → card_in text i ≡ Field f → card_in text j ≡ Field g → f.name ≡ g.name → ⊥
 names_once text a i j h l s f g ci cj e =
     let d = defined_by text j in
     let b = seen_by text j in
-    let told = subst (λ (c : DeckCard). doubles d b c ≡ None) cj (doubles-kept text a j l) in
+    let told = subst (λ (c : DeckCard). doubles d b c ≡ None) cj (doubles_kept text a j l) in
     both (is_some (place_of_name b.names g.name)) (new_name d b g told)
     (subst (λ (n : List ℕ). is_some (place_of_name b.names n) ≡ true) e (name_seen text i j h s f ci))
 
@@ -184,6 +184,6 @@ pub levels_once : (text : List ℕ) → Accepted text → (i j : ℕ) → i < j 
 levels_once text a i j h l s f g ci cj n u v =
     let d = defined_by text j in
     let b = seen_by text j in
-    let told = subst (λ (c : DeckCard). doubles d b c ≡ None) cj (doubles-kept text a j l) in
+    let told = subst (λ (c : DeckCard). doubles d b c ≡ None) cj (doubles_kept text a j l) in
     both (is_some (place_of_indicator b.levels n)) (subst (λ (o : Option ℕ). is_new_level b.levels o ≡ true) v (new_level d b g told))
-    (level-seen text i j h s f ci n u)
+    (level_seen text i j h s f ci n u)

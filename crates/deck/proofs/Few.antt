@@ -11,8 +11,8 @@ use Rattle.deck.specs.Decks.{count, fields_in, defined_by, seen_by}
 use Rattle.deck.specs.Defined.{Defined, Before, define, definition_of, type_of, with_definition, see}
 use Rattle.deck.specs.Laws.{card_in, rank_at, Accepted}
 use Rattle.deck.specs.Rules.{has_place, full}
-use Rattle.deck.proofs.Alike.{fields-by}
-use Rattle.deck.proofs.Apart.{full-kept}
+use Rattle.deck.proofs.Alike.{fields_by}
+use Rattle.deck.proofs.Apart.{full_kept}
 use Rattle.deck.proofs.Resolved.{kept}
 
 -- a card that tells no full table finds a place for its field
@@ -38,8 +38,8 @@ fields_few : (text : List ℕ) → Accepted text → (k : ℕ) → k ≤ count t
 fields_few text a zero h = lit≤ tt
 fields_few text a (suc k) h =
     let d = defined_by text k in
-    subst (λ (f : Fields). length f.names ≤ 64) (sym (fields-by d (card_in text k)))
-    (few_with d.fields (definition_of (card_in text k)) (fields_few text a k (omega (arith, h))) (place_kept d (seen_by text k) (card_in text k) (full-kept text a k h)))
+    subst (λ (f : Fields). length f.names ≤ 64) (sym (fields_by d (card_in text k)))
+    (few_with d.fields (definition_of (card_in text k)) (fields_few text a k (omega (arith, h))) (place_kept d (seen_by text k) (card_in text k) (full_kept text a k h)))
 
 pub few_fields : (text : List ℕ) → Accepted text → length (fields_in text).names ≤ 64
 few_fields text a = fields_few text a (count text) (le_refl (count text))
@@ -71,7 +71,7 @@ few_by d b rank (OutputField o) e h = h
 types_few : (text : List ℕ) → Accepted text → (k : ℕ) → k ≤ count text → length (seen_by text k).indicators ≤ 16
 types_few text a zero h = lit≤ tt
 types_few text a (suc k) h =
-    few_by (defined_by text k) (seen_by text k) (rank_at text k) (card_in text k) (full-kept text a k h) (types_few text a k (omega (arith, h)))
+    few_by (defined_by text k) (seen_by text k) (rank_at text k) (card_in text k) (full_kept text a k h) (types_few text a k (omega (arith, h)))
 
 pub few_types : (text : List ℕ) → Accepted text → length (defined_by text (count text)).types ≤ 16
 few_types text a = subst (λ (n : ℕ). n ≤ 16) (sym (same text (count text))) (types_few text a (count text) (le_refl (count text)))

@@ -15,24 +15,24 @@ use Rattle.deck.specs.Decks.{card_at, count, first_telling, defined_by, seen_by}
 use Rattle.deck.specs.Defined.{Before, see}
 use Rattle.deck.specs.Laws.{card_in, rank_at, Accepted}
 use Rattle.deck.specs.Rules.{full, doubles}
-use Rattle.deck.proofs.Apart.{first-kept}
-use Rattle.deck.proofs.Resolved.{not_false, kept-head, kept-rest, kept, unnumbered}
+use Rattle.deck.proofs.Apart.{first_kept}
+use Rattle.deck.proofs.Resolved.{not_false, kept_head, kept_rest, kept, unnumbered}
 
 -- the highest rank grows by each card's
-highest-by : (b : Before) (rank : ℕ) (c : DeckCard) → (see b rank c).highest ≡ max b.highest rank
-highest-by b rank card.Comment = refl
-highest-by b rank (card.Record r) = refl
-highest-by b rank (card.Field f) = refl
-highest-by b rank (card.Calculation c) = refl
-highest-by b rank (card.OutputRecord o) = refl
-highest-by b rank (card.OutputField o) = refl
+highest_by : (b : Before) (rank : ℕ) (c : DeckCard) → (see b rank c).highest ≡ max b.highest rank
+highest_by b rank card.Comment = refl
+highest_by b rank (card.Record r) = refl
+highest_by b rank (card.Field f) = refl
+highest_by b rank (card.Calculation c) = refl
+highest_by b rank (card.OutputRecord o) = refl
+highest_by b rank (card.OutputField o) = refl
 
 below : (text : List ℕ) (i j : ℕ) → i < j → rank_at text i ≤ (seen_by text j).highest
 below text i zero h = absurd (not-suc-le-zero h)
 below text i (suc j) h = at (eq-or-lt_of_le (le_of_suc-le-suc h)) (below text i j)
   where
     grown : (see (seen_by text j) (rank_at text j) (card_in text j)).highest ≡ max (seen_by text j).highest (rank_at text j)
-    grown = highest-by (seen_by text j) (rank_at text j) (card_in text j)
+    grown = highest_by (seen_by text j) (rank_at text j) (card_in text j)
 
     at : (i ≡ j) ⊎ (i < j) → (i < j → rank_at text i ≤ (seen_by text j).highest) → rank_at text i ≤ (see (seen_by text j) (rank_at text j) (card_in text j)).highest
     at (inl e) f = let r : rank_at text i ≡ rank_at text j = subst (λ (k : ℕ). rank_at text i ≡ rank_at text k) e refl in omega (arith, grown, r)
@@ -43,8 +43,8 @@ module _ (h : ℕ) (c : List ℕ) where
   behind : (rs : List Rule) → punches.first_of h c (entry 1 5 Free ∷ entry 6 6 Form ∷ rs) ≡ None → follows (kind_of c) h c ≡ true
   behind rs e =
       let form = entry 6 6 Form ∷ rs in
-      let kept-form = kept-head (punches.first_of h c form) [] (kept-rest (punches.tells h c Free 1 5) (punches.first_of h c form ∷ []) e) in
-      kept Order 6 (follows (kind_of c) h c) (kept-head (punches.tells h c Form 6 6) (punches.first_of h c rs ∷ []) kept-form)
+      let kept-form = kept_head (punches.first_of h c form) [] (kept_rest (punches.tells h c Free 1 5) (punches.first_of h c form ∷ []) e) in
+      kept Order 6 (follows (kind_of c) h c) (kept_head (punches.tells h c Form 6 6) (punches.first_of h c rs ∷ []) kept-form)
 
   told_form : (k : Kind) → (k ≡ Comment → ⊥) → punches.first_of h c (layout_of k) ≡ None → follows (kind_of c) h c ≡ true
   told_form Comment n e = absurd (n refl)
@@ -70,7 +70,7 @@ in_order text a i j h l n =
     let c = card_at text j in
     let d = defined_by text j in
     let b = seen_by text j in
-    let told = unnumbered j (first_telling d b c) (first-kept text a j l) in
-    let kept-layout = kept-head (punches.first_of b.highest c (layout_of (kind_of c))) (full d b (card_in text j) ∷ doubles d b (card_in text j) ∷ []) told in
+    let told = unnumbered j (first_telling d b c) (first_kept text a j l) in
+    let kept-layout = kept_head (punches.first_of b.highest c (layout_of (kind_of c))) (full d b (card_in text j) ∷ doubles d b (card_in text j) ∷ []) told in
     let rank = in_rank (kind_of c) b.highest c n (told_form b.highest c (kind_of c) n kept-layout) in
     le_trans (below text i j h) rank

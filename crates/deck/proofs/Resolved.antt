@@ -42,13 +42,13 @@ finds f n h =
     record { within = p.0; named = (bytes_eq-Decides _ n).0 p.1 }
 
 -- no rule of a list tells anything where the first telling is none
-pub kept-head : {X : Type 0} (r : Option X) (rs : List (Option X)) → first (r ∷ rs) ≡ None → r ≡ None
-kept-head None rs e = refl
-kept-head (Some x) rs e = e
+pub kept_head : {X : Type 0} (r : Option X) (rs : List (Option X)) → first (r ∷ rs) ≡ None → r ≡ None
+kept_head None rs e = refl
+kept_head (Some x) rs e = e
 
-pub kept-rest : {X : Type 0} (r : Option X) (rs : List (Option X)) → first (r ∷ rs) ≡ None → first rs ≡ None
-kept-rest None rs e = e
-kept-rest (Some x) rs e = no_some e
+pub kept_rest : {X : Type 0} (r : Option X) (rs : List (Option X)) → first (r ∷ rs) ≡ None → first rs ≡ None
+kept_rest None rs e = e
+kept_rest (Some x) rs e = no_some e
 
 pub kept : (refusal : Refusal) (at : ℕ) (b : Bool) → rule refusal at b ≡ None → b ≡ true
 kept refusal at true e = refl
@@ -68,12 +68,12 @@ known f (Calculation c) n e u = by u
     entry at m s k = is_known_by f m n s (kept Unknown at (knows f m) k)
 
     behind : first (rule Unknown 33 (knows f (factor_name c.factor2)) ∷ rule Unknown 43 (knows f c.result) ∷ []) ≡ None
-    behind = kept-rest (rule Unknown 18 (knows f c.factor1)) (rule Unknown 33 (knows f (factor_name c.factor2)) ∷ rule Unknown 43 (knows f c.result) ∷ []) e
+    behind = kept_rest (rule Unknown 18 (knows f c.factor1)) (rule Unknown 33 (knows f (factor_name c.factor2)) ∷ rule Unknown 43 (knows f c.result) ∷ []) e
 
     by : UsesName (Calculation c) n → is_known f n ≡ true
-    by (inl s) = entry 18 c.factor1 s (kept-head (rule Unknown 18 (knows f c.factor1)) (rule Unknown 33 (knows f (factor_name c.factor2)) ∷ rule Unknown 43 (knows f c.result) ∷ []) e)
-    by (inr (inl s)) = entry 33 (factor_name c.factor2) s (kept-head (rule Unknown 33 (knows f (factor_name c.factor2))) (rule Unknown 43 (knows f c.result) ∷ []) behind)
-    by (inr (inr s)) = entry 43 c.result s (kept-head (rule Unknown 43 (knows f c.result)) [] (kept-rest (rule Unknown 33 (knows f (factor_name c.factor2))) (rule Unknown 43 (knows f c.result) ∷ []) behind))
+    by (inl s) = entry 18 c.factor1 s (kept_head (rule Unknown 18 (knows f c.factor1)) (rule Unknown 33 (knows f (factor_name c.factor2)) ∷ rule Unknown 43 (knows f c.result) ∷ []) e)
+    by (inr (inl s)) = entry 33 (factor_name c.factor2) s (kept_head (rule Unknown 33 (knows f (factor_name c.factor2))) (rule Unknown 43 (knows f c.result) ∷ []) behind)
+    by (inr (inr s)) = entry 43 c.result s (kept_head (rule Unknown 43 (knows f c.result)) [] (kept_rest (rule Unknown 33 (knows f (factor_name c.factor2))) (rule Unknown 43 (knows f c.result) ∷ []) behind))
 known f (OutputRecord o) n e u = absurd u
 known f (OutputField o) n e u = is_known_by f (printed_name o.printed) n u (kept Unknown 32 (knows f (printed_name o.printed)) e)
 
@@ -93,4 +93,4 @@ names_found text a k h n u =
     let f = fields_in text in
     let c = card_in text k in
     let told = unnumbered k (uses_told f c) (second_kept text a k h) in
-    finds f n (known f c n (kept-head (unknowns f c) (kinds f c ∷ []) told) u)
+    finds f n (known f c n (kept_head (unknowns f c) (kinds f c ∷ []) told) u)

@@ -29,10 +29,10 @@ module _ {X : Type 0} (F : ℕ → Option X) (k n : ℕ) where
   sweep_end h = ap (λ ks. first (map F ks)) (counting_end k n h)
 
 module _ {X : Type 0} where
-  first-after : (xs ys : List (Option X)) → first xs ≡ None → first (xs ++ ys) ≡ first ys
-  first-after [] ys e = refl
-  first-after (None ∷ xs) ys e = first-after xs ys e
-  first-after (Some x ∷ xs) ys e = absurd (let z : ◌≡◌ {A = ℕ} 0 1 = cc in omega arith)
+  first_after : (xs ys : List (Option X)) → first xs ≡ None → first (xs ++ ys) ≡ first ys
+  first_after [] ys e = refl
+  first_after (None ∷ xs) ys e = first_after xs ys e
+  first_after (Some x ∷ xs) ys e = absurd (let z : ◌≡◌ {A = ℕ} 0 1 = cc in omega arith)
 
   first-within : (xs ys : List (Option X)) (b : X) → first xs ≡ Some b → first (xs ++ ys) ≡ Some b
   first-within [] ys b e = absurd (let z : ◌≡◌ {A = ℕ} 0 1 = cc in omega arith)
@@ -78,11 +78,11 @@ module _ (text : List ℕ) (whole : cut text ≡ None) where
   told_first NoMemory d t s = tt
 
   pub told_second : (e : ReadError) (a : Acted) (t : Table) → first (first_sweep text) ≡ None → AllLookedUp text (Err e) a → Filled text (Err e) t
-  told_second (Refused b) a t u v = first_some (rules text) b (in_sweeps ∙ first-after (first_sweep text) (second_sweep text) u ∙ v)
+  told_second (Refused b) a t u v = first_some (rules text) b (in_sweeps ∙ first_after (first_sweep text) (second_sweep text) u ∙ v)
   told_second NoMemory a t u v = tt
 
   pub told_none : first (first_sweep text) ≡ None → first (second_sweep text) ≡ None → IsFirst (rules text) None
-  told_none u v = first-none (rules text) (in_sweeps ∙ first-after (first_sweep text) (second_sweep text) u ∙ v)
+  told_none u v = first-none (rules text) (in_sweeps ∙ first_after (first_sweep text) (second_sweep text) u ∙ v)
 
 pub told_cut : (text : List ℕ) (b : Breach) → Some b ≡ cut text → IsFirst (rules text) (Some b)
 told_cut text b e = first_some (rules text) b (ap (λ (s : Option Breach). first (s ∷ (first_sweep text ++ second_sweep text))) (sym e))

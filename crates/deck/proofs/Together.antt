@@ -14,8 +14,8 @@ use Rattle.deck.specs.Decks.{count, defined_by, seen_by}
 use Rattle.deck.specs.Defined.{Defined, Before, define, definition_of, with_level}
 use Rattle.deck.specs.Laws.{card_in, Accepted}
 use Rattle.deck.specs.Rules.{go_together, is_like, is_new_level, fits_shape, fits_level, doubles}
-use Rattle.deck.proofs.Apart.{right, doubles-kept}
-use Rattle.deck.proofs.Resolved.{not_false, kept-head, kept-rest, kept}
+use Rattle.deck.proofs.Apart.{right, doubles_kept}
+use Rattle.deck.proofs.Resolved.{not_false, kept_head, kept_rest, kept}
 
 together_self : (s : Shape) → go_together s s ≡ true
 together_self (Number m d) = grind (arith, nat_tests)
@@ -60,17 +60,17 @@ ten_with v (Some m) s h = at (ltb (m - 100) 10 && not (is_some (get_or v (m - 10
     at true = length-set v (m - 100) (Some s) ∙ h
     at false = h
 
-ten-define : (d : Defined) (c : DeckCard) → length d.levels ≡ 10 → length (define d c).levels ≡ 10
-ten-define d Comment h = h
-ten-define d (Record r) h = h
-ten-define d (Field f) h = ten_with d.levels f.level f.shape h
-ten-define d (Calculation c) h = h
-ten-define d (OutputRecord o) h = h
-ten-define d (OutputField o) h = h
+ten_define : (d : Defined) (c : DeckCard) → length d.levels ≡ 10 → length (define d c).levels ≡ 10
+ten_define d Comment h = h
+ten_define d (Record r) h = h
+ten_define d (Field f) h = ten_with d.levels f.level f.shape h
+ten_define d (Calculation c) h = h
+ten_define d (OutputRecord o) h = h
+ten_define d (OutputField o) h = h
 
 ten : (text : List ℕ) (k : ℕ) → length (defined_by text k).levels ≡ 10
 ten text zero = refl
-ten text (suc k) = ten-define (defined_by text k) (card_in text k) (ten text k)
+ten text (suc k) = ten_define (defined_by text k) (card_in text k) (ten text k)
 
 -- a level has a shape that goes together with another
 record Has (v : List (Option Shape)) (q : ℕ) (s : Shape) : Type 0 where
@@ -102,13 +102,13 @@ fits_kept d b g e =
     let name = is_like d.fields (definition_of (Field g)) && not (is_some (place_of_name b.names g.name)) in
     let new = is_new_level b.levels g.level in
     let fits = fits_level d.levels g.level g.shape in
-    right new fits (kept Double 59 (new && fits) (kept-head (rule Double 59 (new && fits)) [] (kept-rest (rule Double 53 name) (rule Double 59 (new && fits) ∷ []) e)))
+    right new fits (kept Double 59 (new && fits) (kept_head (rule Double 59 (new && fits)) [] (kept_rest (rule Double 53 name) (rule Double 59 (new && fits) ∷ []) e)))
 
-fits-at : (text : List ℕ) → Accepted text → (k : ℕ) → k < count text → (g : FieldCard) → card_in text k ≡ Field g → (l : ℕ) → g.level ≡ Some l → l - 100 < 10 → fits_shape (get_or (defined_by text k).levels (l - 100) None) g.shape ≡ true
-fits-at text a k h g c l e low =
+fits_at : (text : List ℕ) → Accepted text → (k : ℕ) → k < count text → (g : FieldCard) → card_in text k ≡ Field g → (l : ℕ) → g.level ≡ Some l → l - 100 < 10 → fits_shape (get_or (defined_by text k).levels (l - 100) None) g.shape ≡ true
+fits_at text a k h g c l e low =
     let d = defined_by text k in
     let b = seen_by text k in
-    let told = subst (λ (x : DeckCard). doubles d b x ≡ None) c (doubles-kept text a k h) in
+    let told = subst (λ (x : DeckCard). doubles d b x ≡ None) c (doubles_kept text a k h) in
     let fits = subst (λ (o : Option ℕ). fits_level d.levels o g.shape ≡ true) e (fits_kept d b g told) in
     let test : ltb (l - 100) 10 ≡ true = grind (arith, nat_tests) in
     subst (λ (t : Bool). fits_shape (cond t (get_or d.levels (l - 100) None) None) g.shape ≡ true) test fits
@@ -125,12 +125,12 @@ has_behind text a i n f c l e low (suc j) h = at (eq-or-lt_of_le (le_of_suc-le-s
         let nj : j < count text = subst (λ (m : ℕ). m < count text) p n in
         subst (λ (x : DeckCard). Has (define d x).levels (l - 100) f.shape) (sym cj)
         (subst (λ (o : Option ℕ). Has (with_level d.levels o f.shape) (l - 100) f.shape) (sym e)
-        (has_new d.levels l f.shape (ten text j) low (fits-at text a j nj f cj l e low)))
+        (has_new d.levels l f.shape (ten text j) low (fits_at text a j nj f cj l e low)))
     at (inr q) k = let r = k q in record { shape = r.shape; slot = stays (defined_by text j) (card_in text j) (l - 100) r.shape r.slot; fits = r.fits }
 
-pub levels-alike : (text : List ℕ) → Accepted text → (i j : ℕ) → i < j → j < count text → (f g : FieldCard) → card_in text i ≡ Field f → card_in text j ≡ Field g → (l : ℕ) → 101 ≤ l → l ≤ 109 → f.level ≡ Some l → g.level ≡ Some l → go_together f.shape g.shape ≡ true
-levels-alike text a i j h n f g ci cj l first last u v =
+pub levels_alike : (text : List ℕ) → Accepted text → (i j : ℕ) → i < j → j < count text → (f g : FieldCard) → card_in text i ≡ Field f → card_in text j ≡ Field g → (l : ℕ) → 101 ≤ l → l ≤ 109 → f.level ≡ Some l → g.level ≡ Some l → go_together f.shape g.shape ≡ true
+levels_alike text a i j h n f g ci cj l first last u v =
     let low : l - 100 < 10 = omega arith in
     let k = has_behind text a i (omega (arith, h, n)) f ci l u low j h in
-    let fits = fits-at text a j n g cj l v low in
+    let fits = fits_at text a j n g cj l v low in
     together_join k.shape f.shape g.shape k.fits (subst (λ (r : Option Shape). fits_shape r g.shape ≡ true) k.slot fits)

@@ -51,14 +51,14 @@ pub record Keeps (text : List ℕ) : Type 0 where
   -- comments aside, the cards stand in order
   pub in_order : (i j : ℕ) → i < j → j < count text → (kind_of (card_at text j) ≢ kind.Comment) → rank_at text i ≤ rank_at text j
   -- no two record types have one record indicator
-  pub types-apart : (i j : ℕ) → i < j → j < count text → (r s : RecordCard) → card_in text i ≡ Record r → card_in text j ≡ Record s → r.indicator ≢ s.indicator
+  pub types_apart : (i j : ℕ) → i < j → j < count text → (r s : RecordCard) → card_in text i ≡ Record r → card_in text j ≡ Record s → r.indicator ≢ s.indicator
   -- within a record type no two fields have one name, and no two one level
   pub names_once : (i j : ℕ) → i < j → j < count text → SameType text i j → (f g : FieldCard) → card_in text i ≡ Field f → card_in text j ≡ Field g → f.name ≢ g.name
   pub levels_once : (i j : ℕ) → i < j → j < count text → SameType text i j → (f g : FieldCard) → card_in text i ≡ Field f → card_in text j ≡ Field g → (l : ℕ) → f.level ≡ Some l → g.level ≢ Some l
   -- all control fields of one level, L1 to L9 being 101 to 109, are of one length and one kind
-  pub levels-alike : (i j : ℕ) → i < j → j < count text → (f g : FieldCard) → card_in text i ≡ Field f → card_in text j ≡ Field g → (l : ℕ) → 101 ≤ l → l ≤ 109 → f.level ≡ Some l → g.level ≡ Some l → go_together f.shape g.shape ≡ true
+  pub levels_alike : (i j : ℕ) → i < j → j < count text → (f g : FieldCard) → card_in text i ≡ Field f → card_in text j ≡ Field g → (l : ℕ) → 101 ≤ l → l ≤ 109 → f.level ≡ Some l → g.level ≡ Some l → go_together f.shape g.shape ≡ true
   -- all cards that define one name define it alike
-  pub defined-alike : (i j : ℕ) → i < j → j < count text → (c d : Definition) → definition_of (card_in text i) ≡ Some c → definition_of (card_in text j) ≡ Some d → c.name ≡ d.name → are_alike c.shape d.shape ≡ true
+  pub defined_alike : (i j : ℕ) → i < j → j < count text → (c d : Definition) → definition_of (card_in text i) ≡ Some c → definition_of (card_in text j) ≡ Some d → c.name ≡ d.name → are_alike c.shape d.shape ≡ true
   -- the field table finds every name that a card uses
   pub names_found : (k : ℕ) → k < count text → (n : List ℕ) → UsesName (card_in text k) n → Finds (fields_in text) n
 

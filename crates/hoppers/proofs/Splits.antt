@@ -32,8 +32,8 @@ walk start (a ∷ us) bs h =
 pub cut : (us bs : List ℕ) → no_end us ≡ true → lines_of (us ++ 10 ∷ bs) ≡ us ∷ lines_of bs
 cut us bs h = walk [] us (10 ∷ bs) h
 
-pub first-line : (bs : List ℕ) (n : ℕ) → n < length bs → no_end (take n bs) ≡ true → get_or bs n 0 ≡ 10 → lines_of bs ≡ take n bs ∷ lines_of (drop (n + 1) bs)
-first-line bs n h k e = ap lines_of (cut_at bs n h e) ∙ cut (take n bs) (drop (n + 1) bs) k
+pub first_line : (bs : List ℕ) (n : ℕ) → n < length bs → no_end (take n bs) ≡ true → get_or bs n 0 ≡ 10 → lines_of bs ≡ take n bs ∷ lines_of (drop (n + 1) bs)
+first_line bs n h k e = ap lines_of (cut_at bs n h e) ∙ cut (take n bs) (drop (n + 1) bs) k
 
 last_of : (bs : List ℕ) → 1 ≤ length bs → last_line bs ≡ bs ∷ []
 last_of [] h = absurd (omega arith)
@@ -42,8 +42,8 @@ last_of (b ∷ bs) h = refl
 only : (bs : List ℕ) → no_end bs ≡ true → lines_of bs ≡ last_line bs
 only bs h = sym (ap lines_of (append-nil bs)) ∙ walk [] bs [] h
 
-pub only-line : (bs : List ℕ) (n : ℕ) → length bs ≤ n → no_end (take n bs) ≡ true → 1 ≤ length bs → lines_of bs ≡ take (length bs) bs ∷ lines_of (drop (length bs + 1) bs)
-only-line bs n h k l =
+pub only_line : (bs : List ℕ) (n : ℕ) → length bs ≤ n → no_end (take n bs) ≡ true → 1 ≤ length bs → lines_of bs ≡ take (length bs) bs ∷ lines_of (drop (length bs + 1) bs)
+only_line bs n h k l =
     let t : take (length bs) bs ≡ bs = take_all (length bs) bs (omega arith) in
     let d : drop (length bs + 1) bs ≡ [] = drop_all (length bs + 1) bs (omega arith) in
     only bs (rw (take_all n bs h) at k) ∙ last_of bs l ∙ sym (rw (t, d) refl)

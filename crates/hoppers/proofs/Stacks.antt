@@ -7,7 +7,7 @@ cards_more bs h =
     let e : length bs / 80 ≡ suc (length (drop 80 bs) / 80) = simp length-drop (omega arith) in
     ap (λ n. first_cards n bs) e
 
-pub leftover-same : (bs : List ℕ) → 80 ≤ length bs → leftover (drop 80 bs) ≡ leftover bs
-leftover-same bs h =
+pub leftover_same : (bs : List ℕ) → 80 ≤ length bs → leftover (drop 80 bs) ≡ leftover bs
+leftover_same bs h =
     let e : length (drop 80 bs) % 80 ≡ length bs % 80 = simp length-drop (omega arith) in
     rw e refl

@@ -27,9 +27,9 @@ read_digits (suc m) x i r h =
     let w : (i + m) + 1 ≡ i + suc m = omega arith in
     ap (read_on 0 i) s ∙ read_digits m (x / 10) i ((48 + x % 10) ∷ r) (front m x h) ∙ rw (c, v, w) refl
 
-last-is : (neg : Bool) (d : ℕ) → d < 10 → last_of (overpunch neg d) ≡ punch neg d
-last-is false d h = grind (arith, nat_tests)
-last-is true d h = grind (arith, nat_tests)
+last_is : (neg : Bool) (d : ℕ) → d < 10 → last_of (overpunch neg d) ≡ punch neg d
+last_is false d h = grind (arith, nat_tests)
+last_is true d h = grind (arith, nat_tests)
 
 resigned : (z : ℤ) → signed (negative z) (nat_abs z) ≡ z
 resigned (pos n) = refl
@@ -44,13 +44,13 @@ read_snoc ds b i v m l e =
     let k : length (ds ++ b ∷ []) - 1 ≡ m = simp length-append (omega arith) in
     rw (k, take_at ds (b ∷ []) m l, get_or_at ds b [] 0 m l, e) refl
 
-pub reads-back : ReadsBack
-reads-back n i z h k =
+pub reads_back : ReadsBack
+reads_back n i z h k =
     let x = nat_abs z in
     let p : (n - 1) + 1 ≡ n = omega arith in
     let w : x < 10 ^ suc (n - 1) = rw (← (add-one (n - 1)), p) k in
     let d : read_on 0 i (digits (n - 1) (x / 10)) ≡ Ok (x / 10) = rw (append-nil (digits (n - 1) (x / 10))) at (read_digits (n - 1) (x / 10) i [] (front (n - 1) x w)) in
-    let l : last_of (overpunch (negative z) (x % 10)) ≡ punch (negative z) (x % 10) = last-is (negative z) (x % 10) (omega arith) in
+    let l : last_of (overpunch (negative z) (x % 10)) ≡ punch (negative z) (x % 10) = last_is (negative z) (x % 10) (omega arith) in
     let v : x / 10 * 10 + x % 10 ≡ x = omega arith in
     read_snoc (digits (n - 1) (x / 10)) (overpunch (negative z) (x % 10)) i (x / 10) (n - 1) (length_digits (n - 1) (x / 10)) d
     ∙ rw (l, v) (ap Ok (resigned z))
@@ -140,9 +140,9 @@ shown-edited e n d z m h = at e.blank_zero (eqb (nat_abs z) 0) refl
     at false q k = shown-full e n d z m h
 
 -- the last column of an unedited image
-shown-last : (neg : Bool) (v d : ℕ) → d < 10 → shown_from v (overpunch neg d ∷ []) ≡ signed neg (v * 10 + d)
-shown-last false v d h = shown_digit v d [] h
-shown-last true v d h = at (eqb d 0) refl
+shown_last : (neg : Bool) (v d : ℕ) → d < 10 → shown_from v (overpunch neg d ∷ []) ≡ signed neg (v * 10 + d)
+shown_last false v d h = shown_digit v d [] h
+shown_last true v d h = at (eqb d 0) refl
   where
     at : (b : Bool) → eqb d 0 ≡ b → shown_from v (cond b 125 (73 + d) ∷ []) ≡ neg_ℤ (pos (v * 10 + d))
     at true e = let k : d ≡ 0 = grind (arith, nat_tests) in rw k refl
@@ -161,7 +161,7 @@ shown-unedited n z h k =
     let w : x < 10 ^ suc (n - 1) = rw (← (add-one (n - 1)), p) k in
     let v : x / 10 * 10 + x % 10 ≡ x = omega arith in
     shown-digits (n - 1) (x / 10) (overpunch (negative z) (x % 10) ∷ []) (front (n - 1) x w)
-    ∙ shown-last (negative z) (x / 10) (x % 10) (omega arith) ∙ rw v (resigned z)
+    ∙ shown_last (negative z) (x / 10) (x % 10) (omega arith) ∙ rw v (resigned z)
 
 pub shows_back : ShowsBack
 shows_back None n d z m h k = shown-unedited n z h k

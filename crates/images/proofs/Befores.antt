@@ -11,8 +11,8 @@ use Rattle.images.specs.Laws.{ColumnsHold, ColumnsStay}
 pub before-none : (l : List ℕ) (e : ℕ) → before l e [] ≡ l
 before-none l e = rw (sub-zero e) (take-append-drop e l)
 
-pub before-one : (l : List ℕ) (e b : ℕ) → 1 ≤ e → e ≤ length l → set l (e - 1) b ≡ before l e (b ∷ [])
-before-one l e b h k =
+pub before_one : (l : List ℕ) (e b : ℕ) → 1 ≤ e → e ≤ length l → set l (e - 1) b ≡ before l e (b ∷ [])
+before_one l e b h k =
     let s : suc (e - 1) ≡ e = omega arith in
     set_split l (e - 1) b (omega arith) ∙ rw s refl
 
@@ -43,8 +43,8 @@ laid_part l e w xs ys y n z o h k =
     rw (y, a, b) (put_part l e w xs n h k)
 
 -- columns that are written from the front on
-pub front-before : (l xs : List ℕ) (w : ℕ) → length xs ≡ w → take w (before l w xs) ≡ xs
-front-before l xs w n =
+pub front_before : (l xs : List ℕ) (w : ℕ) → length xs ≡ w → take w (before l w xs) ≡ xs
+front_before l xs w n =
     let z : w - w ≡ 0 = omega arith in
     rw (n, z) (take_at xs (drop w l) w n)
 
@@ -67,8 +67,8 @@ columns_hold l p xs h k =
     let n : length (take (p - length xs) l) ≡ p - length xs = length-take-le (p - length xs) l (omega arith) in
     rw (drop_at (take (p - length xs) l) (xs ++ drop p l) (p - length xs) n) (take_at xs (drop p l) (length xs) refl)
 
-pub columns-stay : ColumnsStay
-columns-stay l p w q ys h k m n apart =
+pub columns_stay : ColumnsStay
+columns_stay l p w q ys h k m n apart =
     let a : length (before l q ys) ≡ length l = length_before l q ys m n in
     let b : (x : List ℕ) → length x ≡ length l → length (columns x p w) ≡ w = λ x e. length-take-le w (drop (p - w) x) (let d = length-drop (p - w) x in omega arith) in
     same_lists (columns (before l q ys) p w) (columns l p w) (b (before l q ys) a ∙ sym (b l refl))

@@ -9,7 +9,7 @@ use Rattle.images.specs.Lines.{before}
 use Rattle.images.proofs.Backs.{length_digits}
 use Rattle.images.proofs.Fronts.{length-blanked}
 use Rattle.images.proofs.Befores.{before-append, length_before}
-use Rattle.images.proofs.Widths.{text-is}
+use Rattle.images.proofs.Widths.{text_is}
 
 marked_snoc : (commas : Bool) (d j : ℕ) (cs : List ℕ) (c : ℕ) → marked commas d j (cs ++ c ∷ []) ≡ marked commas d (j + 1) cs ++ (c ∷ mark commas d j)
 marked_snoc commas d j [] c = rw (zero-add j, append-nil (mark commas d j)) refl
@@ -29,8 +29,8 @@ left_splits commas d n k x h =
 pub left_all : (commas : Bool) (d n x : ℕ) → left commas d n 0 x ≡ text commas d (digits n x)
 left_all commas d n x = rw (sub-zero n, length_digits n x) refl
 
-pub left-none : (commas : Bool) (d n k x : ℕ) → n ≤ k → left commas d n k x ≡ mark false d n
-left-none commas d n k x h = let m : n - k ≡ 0 = omega arith in rw (m, append-nil (mark false d n)) refl
+pub left_none : (commas : Bool) (d n k x : ℕ) → n ≤ k → left commas d n k x ≡ mark false d n
+left_none commas d n k x h = let m : n - k ≡ 0 = omega arith in rw (m, append-nil (mark false d n)) refl
 
 -- the state of the loop: what it will leave is settled
 pub record Will (goal : List ℕ) (stop : ℕ) (l : List ℕ) (at : ℕ) (xs : List ℕ) : Type 0 where
@@ -68,7 +68,7 @@ will_more {goal} {stop} l at commas d n k x h w l1 a1 e1 f1 l2 a2 e2 f2 =
     record { room = omega (arith, w.room); last = omega (arith, w.last); long = g2 ∙ g1 ∙ w.long; line = sym (s1 ∙ s2) ∙ w.line; ends = omega (arith, w.ends, w.room) }
 
 pub will_end : {goal : List ℕ} {stop : ℕ} (l : List ℕ) (at : ℕ) (commas : Bool) (d n k x : ℕ) → n ≤ k → Will goal stop l at (left commas d n k x) → Will goal stop l at (mark false d n)
-will_end {goal} {stop} l at commas d n k x h w = rw (left-none commas d n k x h) at w
+will_end {goal} {stop} l at commas d n k x h w = rw (left_none commas d n k x h) at w
 
 -- a text put before `last` and its front blanked
 before-blanked : (l : List ℕ) (last first : ℕ) (T ys : List ℕ) → length T ≤ last → last ≤ length l → first ≡ last - length T → ys ≡ blanked (mid_of first (last - first) (before l last T)) →
@@ -95,4 +95,4 @@ shown_put l e T S l1 last l2 first ys h k e1 f1 e2 f2 y =
 
 pub plain_put : (l : List ℕ) (e b : ℕ) (ds : List ℕ) (l1 : List ℕ) (a : ℕ) (l2 : List ℕ) → length ds + 1 ≤ e → e ≤ length l →
     l1 ≡ before l e (b ∷ []) → a ≡ e - 1 → l2 ≡ before l1 a (text false 0 ds) → l2 ≡ before l e (ds ++ b ∷ [])
-plain_put l e b ds l1 a l2 h k e1 f1 e2 = e2 ∙ rw (text-is ds, e1, f1) (sym (before-append l e ds (b ∷ []) h k))
+plain_put l e b ds l1 a l2 h k e1 f1 e2 = e2 ∙ rw (text_is ds, e1, f1) (sym (before-append l e ds (b ∷ []) h k))

@@ -25,10 +25,10 @@ length-mark commas d k = at (eqb k d) (eqb d 0) (commas && (ltb d k && eqb ((k -
 marks : Bool → ℕ → ℕ → ℕ
 marks commas d n = cond (ltb d n) (cond (eqb d 0) 0 1) 0 + cond commas ((n - d - 1) / 3) 0
 
-marks-none : (commas : Bool) (d : ℕ) → 0 ≡ marks commas d 0
+marks_none : (commas : Bool) (d : ℕ) → 0 ≡ marks commas d 0
 unfolding marks
-marks-none true d = grind (arith, nat_tests)
-marks-none false d = grind (arith, nat_tests)
+marks_none true d = grind (arith, nat_tests)
+marks_none false d = grind (arith, nat_tests)
 
 marks_more : (commas : Bool) (d n : ℕ) → cond (eqb n d) (cond (eqb d 0) 0 1) (cond (commas && (ltb d n && eqb ((n - d) % 3) 0)) 1 0) + marks commas d n ≡ marks commas d (suc n)
 unfolding marks
@@ -36,7 +36,7 @@ marks_more true d n = grind (arith, nat_tests)
 marks_more false d n = grind (arith, nat_tests)
 
 length_marked : (commas : Bool) (d : ℕ) (cs : List ℕ) → length (marked commas d 0 cs) ≡ length cs + marks commas d (length cs)
-length_marked commas d [] = sym (rw (← (marks-none commas d)) refl)
+length_marked commas d [] = sym (rw (← (marks_none commas d)) refl)
 length_marked commas d (c ∷ cs) =
     let a : length (mark commas d (length cs + 0) ++ marked commas d 0 cs) ≡ length (mark commas d (length cs)) + length (marked commas d 0 cs) = rw (add-zero (length cs)) (length-append _ _) in
     let m : length (mark commas d (length cs)) + marks commas d (length cs) ≡ marks commas d (suc (length cs)) = rw (length-mark commas d (length cs)) (marks_more commas d (length cs)) in
@@ -55,9 +55,9 @@ length-text commas d n x h =
     let k = length-mark false d n in
     a ∙ rw (m, l, k) (widths commas n d h)
 
-pub length-sign : (s : SignStyle) (m : Bool) → length (sign_bytes s m) ≡ sign_width s
-length-sign Omitted m = refl
-length-sign Minus m = refl
+pub length_sign : (s : SignStyle) (m : Bool) → length (sign_bytes s m) ≡ sign_width s
+length_sign Omitted m = refl
+length_sign Minus m = refl
 
 -- digits alone are a text with no mark
 text_plain : (j : ℕ) (ds : List ℕ) → marked false 0 j ds ≡ ds
@@ -68,8 +68,8 @@ text_plain j (c ∷ cs) = at (eqb (length cs + j) 0) (text_plain j cs)
     at true e = ap (λ t. c ∷ t) e
     at false e = ap (λ t. c ∷ t) e
 
-pub text-is : (ds : List ℕ) → text false 0 ds ≡ ds
-text-is ds = at (eqb (length ds) 0)
+pub text_is : (ds : List ℕ) → text false 0 ds ≡ ds
+text_is ds = at (eqb (length ds) 0)
   where
     at : (b : Bool) → cond b [] [] ++ marked false 0 0 ds ≡ ds
     at true = text_plain 0 ds
@@ -83,7 +83,7 @@ length-unedited n z h =
 pub length-shown : (e : EditStyle) (n d : ℕ) (z : ℤ) → d ≤ n → length (blanked (text e.commas d (digits n (nat_abs z))) ++ sign_bytes e.sign (negative z)) ≡ edited_width e n d
 length-shown e n d z h =
     let t = length-text e.commas d n (nat_abs z) h in
-    let s = length-sign e.sign (negative z) in
+    let s = length_sign e.sign (negative z) in
     let b = length-blanked (text e.commas d (digits n (nat_abs z))) in
     length-append (blanked (text e.commas d (digits n (nat_abs z)))) (sign_bytes e.sign (negative z)) ∙ rw (b, t, s) refl
 

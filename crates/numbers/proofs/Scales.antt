@@ -8,7 +8,7 @@ use Rattle.numbers.specs.declared.kinds.Rounding.{Rounding}
 use Rattle.numbers.specs.declared.kinds.Rounding.TheVariants.{Cut, HalfAdjust}
 use Rattle.numbers.specs.Exact.{Fraction, taken, Same, units}
 use Rattle.numbers.specs.Places.{Is, CountsPlaces}
-use Rattle.numbers.proofs.Tens.{ten-some}
+use Rattle.numbers.proofs.Tens.{ten_some}
 
 pub nat_abs_scaled : (z : ℤ) (n : ℕ) → nat_abs (z *ℤ pos n) ≡ nat_abs z * n
 nat_abs_scaled z n = grind arith
@@ -45,25 +45,25 @@ sum_scaled x y (suc n) =
     regrouped p q x y = omega (arith, ints)
 
 -- fractions of one value are taken alike
-cut-same : (n d m e : ℕ) → 0 < d → 0 < e → n * e ≡ m * d → n / d ≡ m / e
-cut-same n d m e p q h =
+cut_same : (n d m e : ℕ) → 0 < d → 0 < e → n * e ≡ m * d → n / d ≡ m / e
+cut_same n d m e p q h =
     sym (mul-div-mul_right {m = e} n d q) ∙ rw (h, mul_comm d e) (mul-div-mul_right {m = d} m e p)
 
-pub taken-same : (r : Rounding) (n d m e : ℕ) → 0 < d → 0 < e → n * e ≡ m * d → taken r n d ≡ taken r m e
-taken-same Cut n d m e p q h = cut-same n d m e p q h
-taken-same HalfAdjust n d m e p q h = cut-same (2 * n + d) (2 * d) (2 * m + e) (2 * e) (omega arith) (omega arith) (omega arith)
+pub taken_same : (r : Rounding) (n d m e : ℕ) → 0 < d → 0 < e → n * e ≡ m * d → taken r n d ≡ taken r m e
+taken_same Cut n d m e p q h = cut_same n d m e p q h
+taken_same HalfAdjust n d m e p q h = cut_same (2 * n + d) (2 * d) (2 * m + e) (2 * e) (omega arith) (omega arith) (omega arith)
 
 -- a whole number is taken as it is
-pub taken-whole : (r : Rounding) (x y : ℕ) → 0 < y → taken r (x * y) y ≡ x
-taken-whole Cut x y h = div-eq_of_lt-le y (omega arith) (omega arith)
-taken-whole HalfAdjust x y h = div-eq_of_lt-le (2 * y) (omega arith) (omega arith)
+pub taken_whole : (r : Rounding) (x y : ℕ) → 0 < y → taken r (x * y) y ≡ x
+taken_whole Cut x y h = div-eq_of_lt-le y (omega arith) (omega arith)
+taken_whole HalfAdjust x y h = div-eq_of_lt-le (2 * y) (omega arith) (omega arith)
 
-pub units-same : (r : Rounding) (d : ℕ) (f g : Fraction) → 0 < f.den → 0 < g.den → Same f g → units r d f ≡ units r d g
-units-same r d f g p q h =
+pub units_same : (r : Rounding) (d : ℕ) (f g : Fraction) → 0 < f.den → 0 < g.den → Same f g → units r d f ≡ units r d g
+units_same r d f g p q h =
     let s : negative f.num ≡ negative g.num = sym (negative_scaled f.num g.den q) ∙ ap negative h ∙ negative_scaled g.num f.den p in
     let n : nat_abs f.num * g.den ≡ nat_abs g.num * f.den = sym (nat_abs_scaled f.num g.den) ∙ ap nat_abs h ∙ nat_abs_scaled g.num f.den in
     let t : taken r (nat_abs f.num * 10 ^ d) f.den ≡ taken r (nat_abs g.num * 10 ^ d) g.den =
-    taken-same r (nat_abs f.num * 10 ^ d) f.den (nat_abs g.num * 10 ^ d) g.den p q (apart (nat_abs f.num) (10 ^ d) g.den (nat_abs g.num) f.den n) in
+    taken_same r (nat_abs f.num * 10 ^ d) f.den (nat_abs g.num * 10 ^ d) g.den p q (apart (nat_abs f.num) (10 ^ d) g.den (nat_abs g.num) f.den n) in
     rw (s, t) refl
   where
     apart : (a t e b c : ℕ) → a * e ≡ b * c → a * t * e ≡ b * t * c
@@ -90,10 +90,10 @@ size_is HalfAdjust n d h =
     let b : 2 * n + d < (2 * n + d) / (2 * d) * (2 * d) + 2 * d = lt-div-mul-add (omega arith) in
     (omega arith, omega arith)
 
-size-only : (r : Rounding) (n d q : ℕ) → Size r n d q → taken r n d ≡ q
+size_only : (r : Rounding) (n d q : ℕ) → Size r n d q → taken r n d ≡ q
 unfolding Size
-size-only Cut n d q s = div-eq_of_lt-le d s.0 s.1
-size-only HalfAdjust n d q s = div-eq_of_lt-le (2 * d) (omega (arith, s.0)) (omega (arith, s.1))
+size_only Cut n d q s = div-eq_of_lt-le d s.0 s.1
+size_only HalfAdjust n d q s = div-eq_of_lt-le (2 * d) (omega (arith, s.0)) (omega (arith, s.1))
 
 -- a count is singled out by its sign and its size
 is_from : (r : Rounding) (num : ℤ) (den : ℕ) (q : ℤ) → q ≡ signed (negative num) (nat_abs q) → Size r (nat_abs num) den (nat_abs q) → Is r num den q
@@ -101,29 +101,29 @@ unfolding Size
 is_from Cut num den q e s = record { sign = e; low = s.0; high = s.1 }
 is_from HalfAdjust num den q e s = record { sign = e; low = s.0; high = s.1 }
 
-is-sign : (r : Rounding) (num : ℤ) (den : ℕ) (q : ℤ) → Is r num den q → q ≡ signed (negative num) (nat_abs q)
-is-sign Cut num den q i = i.sign
-is-sign HalfAdjust num den q i = i.sign
+is_sign : (r : Rounding) (num : ℤ) (den : ℕ) (q : ℤ) → Is r num den q → q ≡ signed (negative num) (nat_abs q)
+is_sign Cut num den q i = i.sign
+is_sign HalfAdjust num den q i = i.sign
 
-is-size : (r : Rounding) (num : ℤ) (den : ℕ) (q : ℤ) → Is r num den q → Size r (nat_abs num) den (nat_abs q)
+is_size : (r : Rounding) (num : ℤ) (den : ℕ) (q : ℤ) → Is r num den q → Size r (nat_abs num) den (nat_abs q)
 unfolding Size
-is-size Cut num den q i = (i.low, i.high)
-is-size HalfAdjust num den q i = (i.low, i.high)
+is_size Cut num den q i = (i.low, i.high)
+is_size HalfAdjust num den q i = (i.low, i.high)
 
-units-is : (r : Rounding) (d : ℕ) (f : Fraction) → 0 < f.den → Is r (f.num *ℤ pos (10 ^ d)) f.den (units r d f)
-units-is r d f h =
+units_is : (r : Rounding) (d : ℕ) (f : Fraction) → 0 < f.den → Is r (f.num *ℤ pos (10 ^ d)) f.den (units r d f)
+units_is r d f h =
     let N = nat_abs f.num * 10 ^ d in
     let a : nat_abs (units r d f) ≡ taken r N f.den = nat_abs_signed (negative f.num) (taken r N f.den) in
-    let s = negative_scaled f.num (10 ^ d) (ten-some d) in
+    let s = negative_scaled f.num (10 ^ d) (ten_some d) in
     let n = nat_abs_scaled f.num (10 ^ d) in
     is_from r (f.num *ℤ pos (10 ^ d)) f.den (units r d f) (rw (a, s) refl) (rw (a, n) (size_is r N f.den h))
 
-units-only : (r : Rounding) (d : ℕ) (f : Fraction) (q : ℤ) → 0 < f.den → Is r (f.num *ℤ pos (10 ^ d)) f.den q → q ≡ units r d f
-units-only r d f q h i =
-    let s = negative_scaled f.num (10 ^ d) (ten-some d) in
+units_only : (r : Rounding) (d : ℕ) (f : Fraction) (q : ℤ) → 0 < f.den → Is r (f.num *ℤ pos (10 ^ d)) f.den q → q ≡ units r d f
+units_only r d f q h i =
+    let s = negative_scaled f.num (10 ^ d) (ten_some d) in
     let n = nat_abs_scaled f.num (10 ^ d) in
-    let t = size-only r (nat_abs (f.num *ℤ pos (10 ^ d))) f.den (nat_abs q) (is-size r (f.num *ℤ pos (10 ^ d)) f.den q i) in
-    is-sign r (f.num *ℤ pos (10 ^ d)) f.den q i ∙ rw (s, ← t, n) refl
+    let t = size_only r (nat_abs (f.num *ℤ pos (10 ^ d))) f.den (nat_abs q) (is_size r (f.num *ℤ pos (10 ^ d)) f.den q i) in
+    is_sign r (f.num *ℤ pos (10 ^ d)) f.den q i ∙ rw (s, ← t, n) refl
 
 pub counts_places : CountsPlaces
-counts_places = record { is = units-is; only = units-only; same = units-same }
+counts_places = record { is = units_is; only = units_only; same = units_same }

@@ -9,8 +9,8 @@ fits (pos n) h = record { sfits = omega arith }
 fits (negsuc n) h = record { sfits = omega arith }
 
 -- what a calculation holds fits 64 bits
-pub fits-wide : (z : ℤ) → nat_abs z < 10 ^ (widest + widest) → SFits w64 z
-fits-wide z h = fits z (omega arith)
+pub fits_wide : (z : ℤ) → nat_abs z < 10 ^ (widest + widest) → SFits w64 z
+fits_wide z h = fits z (omega arith)
 
 pub nat_abs_product : (a b : ℤ) → nat_abs (a *ℤ b) ≡ nat_abs a * nat_abs b
 nat_abs_product a b = grind arith

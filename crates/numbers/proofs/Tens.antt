@@ -7,12 +7,12 @@ use Rattle.std.proofs.lemmas.List.FromFn.{get_or-map-range_with_len}
 pub ten_up : (i j : ℕ) → i ≤ j → 10 ^ i ≤ 10 ^ j
 ten_up i j h = pow-le-pow_right {n = 10} (omega arith) h
 
-pub ten-some : (k : ℕ) → 1 ≤ 10 ^ k
-ten-some k = ten_up 0 k (omega arith)
+pub ten_some : (k : ℕ) → 1 ≤ 10 ^ k
+ten_some k = ten_up 0 k (omega arith)
 
 -- a list that holds the powers of ten holds the k-th at k
-pub ten-at : (xs : List ℕ) (n k : ℕ) → map (λ i. 10 ^ i) (range_with_len 0 n) ≡ xs → k < n → get_or xs k 0 ≡ 10 ^ k
-ten-at xs n k e h = rw (← e) (get_or-map-range_with_len (λ i. 10 ^ i) 0 n k k 0 h (omega arith))
+pub ten_at : (xs : List ℕ) (n k : ℕ) → map (λ i. 10 ^ i) (range_with_len 0 n) ≡ xs → k < n → get_or xs k 0 ≡ 10 ^ k
+ten_at xs n k e h = rw (← e) (get_or-map-range_with_len (λ i. 10 ^ i) 0 n k k 0 h (omega arith))
 
 pub wide_more : (v i d : ℕ) → v < 10 ^ i → d ≤ 9 → v * 10 + d < 10 ^ (i + 1)
 wide_more v i d h k = rw (add-one, pow-suc) (omega arith)

@@ -8,7 +8,7 @@ use Rattle.strip.specs.Strips.{numeral, joined_to, trimmed, body}
 use Rattle.strip.specs.StripReading.{read_number, past_number, padded, read_line, Longest}
 use Rattle.hoppers.specs.TextLines.{no_end}
 use Rattle.hoppers.proofs.Splits.{no_end-append}
-use Rattle.strip.proofs.Trims.{pad, trimmed-short}
+use Rattle.strip.proofs.Trims.{pad, trimmed_short}
 
 -- the bounds that every line keeps
 pub record Parts (p : Printed) : Type 0 where
@@ -30,17 +30,17 @@ good_from p q =
     let d = q.far in
     rw (q.shown, q.wide) (grind (arith, nat_tests))
 
-no_end-joined : (b : ℕ) (ts : List ℕ) → eqb b 10 ≡ false → no_end ts ≡ true → no_end (joined_to b ts) ≡ true
-no_end-joined b [] h k = at (eqb b 32)
+no_end_joined : (b : ℕ) (ts : List ℕ) → eqb b 10 ≡ false → no_end ts ≡ true → no_end (joined_to b ts) ≡ true
+no_end_joined b [] h k = at (eqb b 32)
   where
     at : (v : Bool) → no_end (cond v [] (b ∷ [])) ≡ true
     at true = refl
     at false = rw h refl
-no_end-joined b (c ∷ cs) h k = rw h k
+no_end_joined b (c ∷ cs) h k = rw h k
 
 no_end-trimmed : (t : List ℕ) → printable t ≡ true → no_end (trimmed t) ≡ true
 no_end-trimmed [] h = refl
-no_end-trimmed (b ∷ bs) h = no_end-joined b (trimmed bs) (grind (arith, nat_tests)) (no_end-trimmed bs (grind (arith, nat_tests)))
+no_end-trimmed (b ∷ bs) h = no_end_joined b (trimmed bs) (grind (arith, nat_tests)) (no_end-trimmed bs (grind (arith, nat_tests)))
 
 no_end-numeral : (n : ℕ) → no_end (numeral n) ≡ true
 no_end-numeral n = at (ltb n 10) (ltb n 100)
@@ -77,8 +77,8 @@ back n r h = at (ltb n 10) (ltb n 100) refl refl
     at false true e f = record { number = rw (other (n % 10)) (omega arith); rest = rw (other (n % 10)) refl }
     at false false e f = record { number = rw (other (n / 10 % 10), other (n % 10)) (omega arith); rest = rw (other (n / 10 % 10), other (n % 10)) refl }
 
-pub line-body : (p : Printed) → good p ≡ true → read_line (body p) ≡ p
-line-body p h =
+pub line_body : (p : Printed) → good p ≡ true → read_line (body p) ≡ p
+line_body p h =
     let q = parts p h in
     let s = numeral p.spacing ++ 44 ∷ trimmed p.text in
     let a = back p.number s (omega (arith, q.last)) in
@@ -102,7 +102,7 @@ longest p h =
     let s = numeral p.spacing ++ 44 ∷ trimmed p.text in
     let a = three_at_most p.number in
     let b = one_at_most p.spacing (omega (arith, q.far)) in
-    let c = trimmed-short p.text in
+    let c = trimmed_short p.text in
     let w = q.wide in
     let e = length-append (body p) (10 ∷ []) in
     let f = length-append (numeral p.number) (44 ∷ s) in

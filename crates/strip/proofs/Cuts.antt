@@ -12,20 +12,20 @@ use Rattle.hoppers.specs.TextLines.{lines_of}
 use Rattle.strip.specs.declared.Strip.{Strip}
 use Rattle.strip.specs.declared.reading.Oldest.{Oldest}
 use Rattle.hoppers.proofs.Splits.{cut}
-use Rattle.strip.proofs.Bodies.{no_end-body, line-body}
+use Rattle.strip.proofs.Bodies.{no_end-body, line_body}
 
-rendered-join : (p : Printed) (bs : List ℕ) → rendered p ++ bs ≡ body p ++ 10 ∷ bs
-rendered-join p bs = append_assoc (body p) (10 ∷ []) bs
+rendered_join : (p : Printed) (bs : List ℕ) → rendered p ++ bs ≡ body p ++ 10 ∷ bs
+rendered_join p bs = append_assoc (body p) (10 ∷ []) bs
 
-good-head : (p : Printed) (ps : List Printed) → all_good (p ∷ ps) ≡ true → good p ≡ true
-good-head p ps h = at (good p) h
+good_head : (p : Printed) (ps : List Printed) → all_good (p ∷ ps) ≡ true → good p ≡ true
+good_head p ps h = at (good p) h
   where
     at : (b : Bool) → (b && all_good ps) ≡ true → b ≡ true
     at true k = refl
     at false k = k
 
-good-tail : (p : Printed) (ps : List Printed) → all_good (p ∷ ps) ≡ true → all_good ps ≡ true
-good-tail p ps h = at (good p) h
+good_tail : (p : Printed) (ps : List Printed) → all_good (p ∷ ps) ≡ true → all_good ps ≡ true
+good_tail p ps h = at (good p) h
   where
     at : (b : Bool) → (b && all_good ps) ≡ true → all_good ps ≡ true
     at true k = k
@@ -34,8 +34,8 @@ good-tail p ps h = at (good p) h
 pub strip_reads : StripReads
 strip_reads [] h = refl
 strip_reads (p ∷ ps) h =
-    ap lines_in (rendered-join p (strips ps)) ∙ ap (map read_line) (cut (body p) (strips ps) (no_end-body p (good-head p ps h)))
-    ∙ rw (line-body p (good-head p ps h), strip_reads ps (good-tail p ps h)) refl
+    ap lines_in (rendered_join p (strips ps)) ∙ ap (map read_line) (cut (body p) (strips ps) (no_end-body p (good_head p ps h)))
+    ∙ rw (line_body p (good_head p ps h), strip_reads ps (good_tail p ps h)) refl
 
 strips-push : (ps : List Printed) (p : Printed) → strips (ps ++ p ∷ []) ≡ strips ps ++ rendered p
 strips-push [] p = append-nil (rendered p)
@@ -43,7 +43,7 @@ strips-push (q ∷ ps) p = rw (strips-push ps p) (sym (append_assoc (rendered q)
 
 good-push : (ps : List Printed) (p : Printed) → all_good ps ≡ true → good p ≡ true → all_good (ps ++ p ∷ []) ≡ true
 good-push [] p h k = rw k refl
-good-push (q ∷ ps) p h k = rw (good-head q ps h) (good-push ps p (good-tail q ps h) k)
+good-push (q ∷ ps) p h k = rw (good_head q ps h) (good-push ps p (good_tail q ps h) k)
 
 -- a line added to bytes that a strip wrote
 record Added (bs : List ℕ) (p : Printed) : Type 0 where
@@ -78,7 +78,7 @@ grown items items' f p h g w k e =
 -- the first line of bytes that a strip wrote, where n bytes stand before a line end
 pub record Torn (bs : List ℕ) (n : ℕ) : Type 0 where
   pub reads : lines_in bs ≡ read_line (take n bs) ∷ lines_in (drop (n + 1) bs)
-  pub head-good : good (read_line (take n bs)) ≡ true
+  pub head_good : good (read_line (take n bs)) ≡ true
   pub passes : Passes bs (n + 1)
 
 pub torn : (bs : List ℕ) (n : ℕ) → all_good (lines_in bs) ≡ true → strips (lines_in bs) ≡ bs → n ≤ length bs → lines_of bs ≡ take n bs ∷ lines_of (drop (n + 1) bs) → Torn bs n
@@ -87,13 +87,13 @@ torn bs n g w h e =
     let ps = lines_in (drop (n + 1) bs) in
     let r : lines_in bs ≡ p ∷ ps = ap (map read_line) e in
     let a : all_good (p ∷ ps) ≡ true = rw r at g in
-    let s : bs ≡ body p ++ 10 ∷ strips ps = sym (rw r at w) ∙ rendered-join p (strips ps) in
-    let c : lines_of bs ≡ body p ∷ lines_of (strips ps) = ap lines_of s ∙ cut (body p) (strips ps) (no_end-body p (good-head p ps a)) in
+    let s : bs ≡ body p ++ 10 ∷ strips ps = sym (rw r at w) ∙ rendered_join p (strips ps) in
+    let c : lines_of bs ≡ body p ∷ lines_of (strips ps) = ap lines_of s ∙ cut (body p) (strips ps) (no_end-body p (good_head p ps a)) in
     let t : body p ≡ take n bs = cc in
     let k : length (body p) ≡ n = ap length t ∙ length-take-le n bs h in
     let m : length bs ≡ length (body p) + length (10 ∷ strips ps) = ap length s ∙ length-append (body p) (10 ∷ strips ps) in
     let d : drop (n + 1) bs ≡ strips ps = sym (drop-drop 1 n bs) ∙ ap (λ x. drop 1 (drop n x)) s ∙ ap (drop 1) (drop_at (body p) (10 ∷ strips ps) n k) in
-    record { reads = r; head-good = good-head p ps a; passes = record { within = omega arith; good = good-tail p ps a; written = sym d } }
+    record { reads = r; head_good = good_head p ps a; passes = record { within = omega arith; good = good_tail p ps a; written = sym d } }
 
 pub rest_all : (all items : List ℕ) (f : ℕ) → all ≡ items → take (length all - f) (drop f all) ≡ drop f items
 rest_all all items f e = take_rest all f ∙ ap (drop f) e
@@ -114,8 +114,8 @@ shrunk items f n h t =
 pub emptied : (items : List ℕ) (f n : ℕ) → f + n ≡ length items → lines_in (drop n (drop f items)) ≡ []
 emptied items f n e = ap lines_in (drop-drop n f items ∙ drop_all (f + n) items (omega arith))
 
-pub anew-apart : (f n : ℕ) → (f ≡ n → ⊥) → anew_at f n ≡ true
-anew-apart f n h = grind (arith, nat_tests)
+pub anew_apart : (f n : ℕ) → (f ≡ n → ⊥) → anew_at f n ≡ true
+anew_apart f n h = grind (arith, nat_tests)
 
 -- bytes that are left are lines that are left
 pub some_left : (items : List ℕ) (f n : ℕ) → strips (lines_in (drop f items)) ≡ drop f items → f ≤ length items → (f ≡ length items → ⊥) → n ≡ used_after (lines_in (drop f items)) n
@@ -126,8 +126,8 @@ some_left items f n w h k = at (lines_in (drop f items)) w (length-drop f items)
     at (p ∷ ps) e l = refl
 
 -- a strip without lines has used none of its bytes
-pub none-used : (items : List ℕ) (f : ℕ) → f ≤ length items → anew_at f (length items) ≡ true → strips (lines_in (drop f items)) ≡ drop f items → lines_in (drop f items) ≡ [] → length items ≡ 0
-none-used items f h a w e =
+pub none_used : (items : List ℕ) (f : ℕ) → f ≤ length items → anew_at f (length items) ≡ true → strips (lines_in (drop f items)) ≡ drop f items → lines_in (drop f items) ≡ [] → length items ≡ 0
+none_used items f h a w e =
     let s : drop f items ≡ [] = sym w ∙ ap strips e in
     let l : length items - f ≡ 0 = sym (length-drop f items) ∙ ap length s in
     grind (arith, nat_tests)
@@ -142,7 +142,7 @@ used_more b items items' n n' p h e e' i =
     rw h (e' ∙ ap length i ∙ length-append items (rendered p) ∙ ap (λ x. x + length (rendered p)) (sym e))
 
 pub next_on : (t : Strip) (r : Option Oldest) → Next (strip_rest t) r → NextOn t r
-next_on t None e = (e, t.held.ok.0 ∙ none-used (vec_items t.held) t.first t.front t.anew t.written e)
+next_on t None e = (e, t.held.ok.0 ∙ none_used (vec_items t.held) t.first t.front t.anew t.written e)
 next_on t (Some o) f = f
 
 -- a place is the end of the bytes, or is not

@@ -1,7 +1,7 @@
 use Rattle.std.proofs.Common.{◌-◌, ◌/◌, refl, ◌∙◌, arith}
 use Rattle.images.specs.Images.{digits}
 use Rattle.images.proofs.Backs.{length_digits}
-use Rattle.images.proofs.Widths.{text-is}
+use Rattle.images.proofs.Widths.{text_is}
 use Rattle.images.proofs.Putting.{plain_put}
 use Rattle.images.proofs.writing.put_unedited.Goals as goal
 
@@ -9,7 +9,7 @@ pub put_digits-first-requires : goal.put_digits-first-requires
 put_digits-first-requires c =
     let l = length_digits (c.args.amount.picture.digits - 1) (c.size-size.result / 10) in
     record {
-      first = rw (text-is (digits (c.args.amount.picture.digits - 1) (c.size-size.result / 10))) (omega (arith, c.put-at.ensures.at));
+      first = rw (text_is (digits (c.args.amount.picture.digits - 1) (c.size-size.result / 10))) (omega (arith, c.put-at.ensures.at));
       last = omega (arith, c.put-at.ensures.at);
     }
 

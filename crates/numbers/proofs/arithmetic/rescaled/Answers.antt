@@ -1,7 +1,7 @@
 use Rattle.std.proofs.Common.{◌≡◌, nat_abs, ◌∙◌, arith}
 use Rattle.std.proofs.lemmas.Int.{to_z-of_z}
 use Rattle.numbers.specs.Signs.{negative}
-use Rattle.numbers.proofs.Settles.{settled_down, settled_up, settled-wide}
+use Rattle.numbers.proofs.Settles.{settled_down, settled_up, settled_wide}
 use Rattle.numbers.proofs.arithmetic.rescaled.Goals as goal
 
 pub returns-then-decimals-into : goal.returns-then-decimals-into
@@ -31,7 +31,7 @@ returns-else-size-ten c =
     let f = c.ranges.count in
     let s : c.unsigned_abs-size.result ≡ nat_abs c.args.count = simp to_z-of_z at c.unsigned_abs-size.ensures.value in
     record {
-      count = settled-wide c.args.rounding c.args.into.digits c.args.into.decimals c.args.count c.args.decimals
+      count = settled_wide c.args.rounding c.args.into.digits c.args.into.decimals c.args.count c.args.decimals
           c.unsigned_abs-size.result c.ten-2.result (omega arith) c.args.into.inside s c.ten-2.ensures.value c.if-size-ten.false;
       picture = tt;
     }

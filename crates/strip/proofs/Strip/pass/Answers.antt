@@ -1,6 +1,6 @@
 use Rattle.std.proofs.Common.{◌+◌, length, vec_items, vec_len, sym, refl, ap, ◌∙◌, rules}
 use Rattle.strip.specs.StripReading.{lines_in}
-use Rattle.strip.proofs.Cuts.{shrunk, emptied, anew-apart, some_left, at_end, not_end}
+use Rattle.strip.proofs.Cuts.{shrunk, emptied, anew_apart, some_left, at_end, not_end}
 use Rattle.strip.proofs.Strip.pass.Goals as goal
 
 pub overflow_add-place : goal.overflow_add-place
@@ -13,7 +13,7 @@ pub invariant_of-self-else-is_end : goal.invariant_of-self-else-is_end
 invariant_of-self-else-is_end c =
     let s = c.args.self.now in
     let k = shrunk (vec_items s.held) s.first c.args.n s.front c.requires in
-    let a = anew-apart (s.first + c.args.n) (length (vec_items s.held)) (not_end s _ c.if-is_end.ensures) in
+    let a = anew_apart (s.first + c.args.n) (length (vec_items s.held)) (not_end s _ c.if-is_end.ensures) in
     record { large = s.large; reserved = s.reserved; front = k.front; anew = a; good = k.good; written = k.written }
 
 pub returns-then-is_end : goal.returns-then-is_end

@@ -10,7 +10,7 @@ pub read_line-requires : goal.read_line-requires
 read_line-requires c =
     let e = c.line_length-length.ensures in
     let t = torn c.args.bytes.now c.line_length-length.result c.requires.good c.requires.written e.within (e.lines (omega arith)) in
-    t.head-good
+    t.head_good
 
 pub returns : goal.returns
 returns c =
