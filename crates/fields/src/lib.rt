@@ -1,7 +1,7 @@
 // The field table of a deck: each name once, with its shape.
 //
-// Names are looked up here and nowhere else, so that a run never searches: cards of a deck are resolved to places in
-// this table. Finding a name that is not there is an answer, and no call asks anything of its caller.
+// Fields are looked up by name here and nowhere else, so that a run never searches: cards of a deck are resolved to
+// places in this table. Finding a name that is not there is an answer, and no call asks anything of its caller.
 //
 // The crate knows names and shapes. It may not know which cards define a field, nor which use it.
 #![tactic(auto)]
