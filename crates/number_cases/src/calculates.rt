@@ -1,104 +1,100 @@
 // Every operation on every pair of amounts, into every result.
-use crate::cases::{AMOUNTS, RESULTS, amount};
+use crate::answers::answer;
+use crate::cases::{AMOUNTS, RESULTS};
 use crate::row::{Cell, Row};
-use numbers::{Amount, ArithmeticError, Picture, Rounding};
+use numbers::{Amount, Picture, Rounding, Target};
 use std::cmp::Ordering;
 use std::io;
 
+// An amount, and the place of its case in the table.
+#[derive(Clone, Copy)]
+struct Placed {
+    place: usize,
+    amount: Amount,
+}
+
 pub fn pairs(rt: &HostRuntime) -> io::Result<()> {
-    for (i, case) in AMOUNTS.iter().enumerate() {
-        if let Some(a) = amount(*case) {
-            with_each(rt, i, a)?;
-            from_zero(rt, i, a)?;
+    for (place, case) in AMOUNTS.iter().enumerate() {
+        if let Some(amount) = case.amount() {
+            let a = Placed { place, amount };
+            with_each(rt, a)?;
+            from_zero(rt, a)?;
         }
     }
     Ok(())
 }
 
-fn with_each(rt: &HostRuntime, i: usize, a: Amount) -> io::Result<()> {
-    for (j, case) in AMOUNTS.iter().enumerate() {
-        if let Some(b) = amount(*case) {
-            order(rt, i, j, a.compare(b))?;
-            into_each(rt, i, j, Pair { a, b })?;
+fn with_each(rt: &HostRuntime, a: Placed) -> io::Result<()> {
+    for (place, case) in AMOUNTS.iter().enumerate() {
+        if let Some(amount) = case.amount() {
+            let b = Placed { place, amount };
+            order(rt, a, b)?;
+            into_each(rt, a, b)?;
         }
     }
     Ok(())
 }
 
-fn order(rt: &HostRuntime, i: usize, j: usize, order: Ordering) -> io::Result<()> {
-    let sign = match order {
-        Ordering::Less => "<",
-        Ordering::Equal => "=",
-        Ordering::Greater => ">",
-    };
+fn order(rt: &HostRuntime, a: Placed, b: Placed) -> io::Result<()> {
     rt.println(Row(&[
         Cell::Word("compare"),
-        Cell::Place(i),
-        Cell::Place(j),
-        Cell::Word(sign),
+        Cell::Place(a.place),
+        Cell::Place(b.place),
+        Cell::Word(sign(a.amount.compare(b.amount))),
     ]))
 }
 
-#[derive(Clone, Copy)]
-struct Pair {
-    a: Amount,
-    b: Amount,
+fn sign(order: Ordering) -> &'static str {
+    match order {
+        Ordering::Less => "<",
+        Ordering::Equal => "=",
+        Ordering::Greater => ">",
+    }
 }
 
-fn into_each(rt: &HostRuntime, i: usize, j: usize, pair: Pair) -> io::Result<()> {
+fn into_each(rt: &HostRuntime, a: Placed, b: Placed) -> io::Result<()> {
     for (k, shape) in RESULTS.iter().enumerate() {
-        if let Some(into) = Picture::new(shape.digits, shape.decimals) {
-            four(rt, [i, j, k], pair, Rounding::Cut, into)?;
-            four(rt, [i, j, k], pair, Rounding::HalfAdjust, into)?;
+        if let Some(picture) = shape.picture() {
+            for rounding in [Rounding::Cut, Rounding::HalfAdjust] {
+                four(rt, a, b, k, Target { picture, rounding })?;
+            }
         }
     }
     Ok(())
 }
 
 // The sum, the difference, the product and the quotient of a pair, behind the places of the case in its tables.
-fn four(
-    rt: &HostRuntime,
-    places: [usize; 3],
-    pair: Pair,
-    rounding: Rounding,
-    into: Picture,
-) -> io::Result<()> {
-    let word = match rounding {
+fn four(rt: &HostRuntime, a: Placed, b: Placed, k: usize, into: Target) -> io::Result<()> {
+    let word = match into.rounding {
         Rounding::Cut => "cut",
         Rounding::HalfAdjust => "half",
     };
     rt.println(Row(&[
-        Cell::Place(places[0]),
-        Cell::Place(places[1]),
-        Cell::Place(places[2]),
+        Cell::Place(a.place),
+        Cell::Place(b.place),
+        Cell::Place(k),
         Cell::Word(word),
-        answer(pair.a.add(pair.b, rounding, into)),
-        answer(pair.a.subtract(pair.b, rounding, into)),
-        answer(pair.a.multiply(pair.b, rounding, into)),
-        answer(pair.a.divide(pair.b, rounding, into)),
+        answer(a.amount.add(b.amount, into)),
+        answer(a.amount.subtract(b.amount, into)),
+        answer(a.amount.multiply(b.amount, into)),
+        answer(a.amount.divide(b.amount, into)),
     ]))
 }
 
 // An amount added to zero, and taken from it.
-fn from_zero(rt: &HostRuntime, i: usize, a: Amount) -> io::Result<()> {
-    let Some(into) = Picture::new(5, 2) else {
+fn from_zero(rt: &HostRuntime, a: Placed) -> io::Result<()> {
+    let Some(picture) = Picture::new(5, 2) else {
         return Ok(());
     };
-    let zero = Amount::zero(into);
+    let into = Target {
+        picture,
+        rounding: Rounding::Cut,
+    };
+    let zero = Amount::zero(picture);
     rt.println(Row(&[
         Cell::Word("zero"),
-        Cell::Place(i),
-        answer(zero.add(a, Rounding::Cut, into)),
-        answer(zero.subtract(a, Rounding::Cut, into)),
+        Cell::Place(a.place),
+        answer(zero.add(a.amount, into)),
+        answer(zero.subtract(a.amount, into)),
     ]))
-}
-
-fn answer<'a>(res: Result<Amount, ArithmeticError>) -> Cell<'a> {
-    match res {
-        Ok(amount) => Cell::Number(amount.count),
-        Err(error) => match error.number() {
-            Some(number) => Cell::Stop(number),
-            None => Cell::Word("scale"),
-        },
-    }
 }

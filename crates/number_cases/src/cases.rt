@@ -1,12 +1,31 @@
 // The amounts, pictures and fields that the cases are made of.
 use numbers::{Amount, Picture};
 
-// An amount by its count and picture.
+// Digits and decimals that may or may not be a picture.
+#[derive(Clone, Copy)]
+pub struct Shape {
+    pub digits: u8,
+    pub decimals: u8,
+}
+
+impl Shape {
+    pub fn picture(self) -> Option<Picture> {
+        Picture::new(self.digits, self.decimals)
+    }
+}
+
+// An amount by its count and picture, where they make one.
 #[derive(Clone, Copy)]
 pub struct Case {
     pub count: i64,
     pub digits: u8,
     pub decimals: u8,
+}
+
+impl Case {
+    pub fn amount(self) -> Option<Amount> {
+        Amount::new(self.count, Picture::new(self.digits, self.decimals)?)
+    }
 }
 
 pub const AMOUNTS: [Case; 14] = [
@@ -108,18 +127,6 @@ pub const RESULTS: [Shape; 6] = [
         digits: 3,
         decimals: 3,
     },
-];
-
-// Digits and decimals that may or may not be a picture.
-#[derive(Clone, Copy)]
-pub struct Shape {
-    pub digits: u8,
-    pub decimals: u8,
-}
-
-// The widest count of each number of digits.
-pub const WIDEST_COUNTS: [i64; 9] = [
-    9, 99, 999, 9999, 99999, 999999, 9999999, 99999999, 999999999,
 ];
 
 // Columns that are to be read as a number of some digits.
@@ -227,11 +234,3 @@ pub const FIELDS: [Field; 24] = [
         digits: 2,
     },
 ];
-
-// The amount of a case, where it is one.
-pub fn amount(case: Case) -> Option<Amount> {
-    match Picture::new(case.digits, case.decimals) {
-        Some(picture) => Amount::new(case.count, picture),
-        None => None,
-    }
-}

@@ -1,5 +1,5 @@
 // Edit codes, the images of each, and laying one into a line.
-use crate::cases::{Case, WIDEST_COUNTS, amount};
+use crate::cases::Case;
 use crate::row::{Cell, Row, text};
 use images::{EditCode, EditStyle, Image, LINE_COLUMNS, LayError, SignStyle, image_width};
 use numbers::{Amount, Picture};
@@ -69,10 +69,7 @@ fn widths(rt: &HostRuntime, picture: Picture) -> io::Result<()> {
 
 // Zero, one, the widest count and a seventh of it, with both signs.
 fn values(rt: &HostRuntime, picture: Picture) -> io::Result<()> {
-    let Some(widest) = WIDEST_COUNTS.get(picture.digits as usize - 1) else {
-        return Ok(());
-    };
-    let widest = *widest;
+    let widest = 10i64.pow(u32::from(picture.digits)) - 1;
     for count in [0, 1, -1, widest, -widest, widest / 7, -(widest / 7)] {
         if let Some(amount) = Amount::new(count, picture) {
             each(rt, amount)?;
@@ -109,7 +106,7 @@ pub fn lines(rt: &HostRuntime) -> io::Result<()> {
         digits: 7,
         decimals: 2,
     };
-    if let Some(amount) = amount(case) {
+    if let Some(amount) = case.amount() {
         for end in [0, 1, 9, 10, 11, 131, 132, 133, 255] {
             line(rt, Image::edited(amount, EditCode::K), end)?;
         }

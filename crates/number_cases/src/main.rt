@@ -2,6 +2,7 @@
 // worked out by a program of its own, outside/number_cases.py.
 #![tactic(auto)]
 
+mod answers;
 mod calculates;
 mod cases;
 mod edits;

@@ -1,7 +1,8 @@
 // Making pictures and amounts, and reading amounts from columns.
+use crate::answers::answer;
 use crate::cases::FIELDS;
 use crate::row::{Cell, Row};
-use numbers::{Amount, Picture, ReadError};
+use numbers::{Amount, Picture};
 use std::io;
 
 // Every picture, with those of three counts that it holds.
@@ -45,7 +46,7 @@ pub fn all_bytes(rt: &HostRuntime) -> io::Result<()> {
 }
 
 fn in_both(rt: &HostRuntime, byte: u8, picture: Picture) -> io::Result<()> {
-    let n = Cell::Number(byte as i64);
+    let n = Cell::Number(i64::from(byte));
     let last = answer(Amount::read(&[b'1', b'2', byte], 70, picture));
     rt.println(Row(&[Cell::Word("last"), n, last]))?;
     let front = answer(Amount::read(&[b'1', byte, b'3'], 255, picture));
@@ -64,18 +65,4 @@ pub fn fields(rt: &HostRuntime) -> io::Result<()> {
         }
     }
     Ok(())
-}
-
-fn answer<'a>(read: Result<Amount, ReadError>) -> Cell<'a> {
-    match read {
-        Ok(amount) => Cell::Number(amount.count),
-        Err(error) => refusal(error),
-    }
-}
-
-fn refusal<'a>(error: ReadError) -> Cell<'a> {
-    match error {
-        ReadError::Width => Cell::Word("width"),
-        ReadError::Column { column } => Cell::Column(column),
-    }
 }

@@ -47,6 +47,6 @@ impl Amount {
     pub fn is_negative(self) -> bool
         ensures { result ≡ negative self.count }
     {
-        self.count < 0
+        self.count.is_negative()
     }
 }

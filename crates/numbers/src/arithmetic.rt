@@ -6,7 +6,7 @@ ghost use Rattle.numbers.specs.Exact.{exact, plus, minus, times, taken, stored, 
 ghost use Rattle.numbers.specs.Outcomes.{counted, Pictured};
 
 use crate::amount::Amount;
-use crate::kinds::{ArithmeticError, Rounding};
+use crate::kinds::{ArithmeticError, Rounding, Target};
 use crate::picture::{Picture, WIDEST};
 use crate::powers::ten;
 use crate::reading::with_sign;
@@ -14,63 +14,42 @@ use std::cmp::Ordering;
 
 impl Amount {
     // The exact sum, cut or rounded into the picture of the result.
-    pub fn add(
-        self,
-        other: Amount,
-        rounding: Rounding,
-        into: Picture,
-    ) -> Result<Amount, ArithmeticError>
-        ensures count { counted result ≡ settled rounding into.digits into.decimals (plus (exact self.count self.picture.decimals) (exact other.count other.picture.decimals)) }
-        ensures picture { Pictured result into }
+    pub fn add(self, other: Amount, into: Target) -> Result<Amount, ArithmeticError>
+        ensures count { counted result ≡ settled into.rounding into.picture.digits into.picture.decimals (plus (exact self.count self.picture.decimals) (exact other.count other.picture.decimals)) }
+        ensures picture { Pictured result into.picture }
     {
         let decimals = self.picture.decimals.max(other.picture.decimals);
         let left = finer(self, decimals - self.picture.decimals);
         let right = finer(other, decimals - other.picture.decimals);
-        rescaled(left + right, decimals, rounding, into)
+        rescaled(left + right, decimals, into)
     }
 
     // The exact difference, cut or rounded into the picture of the result.
-    pub fn subtract(
-        self,
-        other: Amount,
-        rounding: Rounding,
-        into: Picture,
-    ) -> Result<Amount, ArithmeticError>
-        ensures count { counted result ≡ settled rounding into.digits into.decimals (minus (exact self.count self.picture.decimals) (exact other.count other.picture.decimals)) }
-        ensures picture { Pictured result into }
+    pub fn subtract(self, other: Amount, into: Target) -> Result<Amount, ArithmeticError>
+        ensures count { counted result ≡ settled into.rounding into.picture.digits into.picture.decimals (minus (exact self.count self.picture.decimals) (exact other.count other.picture.decimals)) }
+        ensures picture { Pictured result into.picture }
     {
-        self.add(opposite(other), rounding, into)
+        self.add(opposite(other), into)
     }
 
     // The exact product, cut or rounded into the picture of the result.
-    pub fn multiply(
-        self,
-        other: Amount,
-        rounding: Rounding,
-        into: Picture,
-    ) -> Result<Amount, ArithmeticError>
-        ensures count { counted result ≡ settled rounding into.digits into.decimals (times (exact self.count self.picture.decimals) (exact other.count other.picture.decimals)) }
-        ensures picture { Pictured result into }
+    pub fn multiply(self, other: Amount, into: Target) -> Result<Amount, ArithmeticError>
+        ensures count { counted result ≡ settled into.rounding into.picture.digits into.picture.decimals (times (exact self.count self.picture.decimals) (exact other.count other.picture.decimals)) }
+        ensures picture { Pictured result into.picture }
     {
         rescaled(
             product(self.count, other.count),
             self.picture.decimals + other.picture.decimals,
-            rounding,
             into,
         )
     }
 
     // The exact quotient, cut or rounded into the picture of the result.
-    pub fn divide(
-        self,
-        by: Amount,
-        rounding: Rounding,
-        into: Picture,
-    ) -> Result<Amount, ArithmeticError>
-        ensures count { counted result ≡ divided rounding into.digits into.decimals self.count self.picture.decimals by.count by.picture.decimals }
-        ensures picture { Pictured result into }
+    pub fn divide(self, by: Amount, into: Target) -> Result<Amount, ArithmeticError>
+        ensures count { counted result ≡ divided into.rounding into.picture.digits into.picture.decimals self.count self.picture.decimals by.count by.picture.decimals }
+        ensures picture { Pictured result into.picture }
     {
-        if into.decimals + by.picture.decimals > self.picture.decimals + WIDEST {
+        if into.picture.decimals + by.picture.decimals > self.picture.decimals + WIDEST {
             return Err(ArithmeticError::Scale);
         }
         if by.count == 0 {
@@ -79,8 +58,8 @@ impl Amount {
         let dividend = signed_by(self, by);
         store(
             dividend.is_negative(),
-            quotient_size(dividend, by, rounding, into.decimals),
-            into,
+            quotient_size(dividend, by, into),
+            into.picture,
         )
     }
 
@@ -148,12 +127,6 @@ fn signed_by(dividend: Amount, divisor: Amount) -> Amount
     }
 }
 
-fn below_zero(value: i64) -> bool
-    ensures { result ≡ negative value }
-{
-    value < 0
-}
-
 // A size over a unit as a whole number, cut or rounded.
 fn quotient(size: u64, unit: u64, rounding: Rounding) -> u64
     requires some { 1 ≤ unit }
@@ -185,47 +158,40 @@ fn store(negative: bool, size: u64, into: Picture) -> Result<Amount, ArithmeticE
 
 // A count of the given decimals, cut or rounded into the picture of the result. What has fewer decimals than
 // the result is tested before it is made larger.
-fn rescaled(
-    count: i64,
-    decimals: u8,
-    rounding: Rounding,
-    into: Picture,
-) -> Result<Amount, ArithmeticError>
+fn rescaled(count: i64, decimals: u8, into: Target) -> Result<Amount, ArithmeticError>
     requires size { unsigned_abs count < 2 * 10 ^ (widest + widest) }
     requires decimals { decimals ≤ widest + widest }
-    ensures count { counted result ≡ settled rounding into.digits into.decimals (exact count decimals) }
-    ensures picture { Pictured result into }
+    ensures count { counted result ≡ settled into.rounding into.picture.digits into.picture.decimals (exact count decimals) }
+    ensures picture { Pictured result into.picture }
 {
+    let picture = into.picture;
     let size = count.unsigned_abs();
-    let negative = below_zero(count);
-    if decimals > into.decimals {
-        return store(
-            negative,
-            quotient(size, ten(decimals - into.decimals), rounding),
-            into,
-        );
+    let negative = count.is_negative();
+    if decimals > picture.decimals {
+        let unit = ten(decimals - picture.decimals);
+        return store(negative, quotient(size, unit, into.rounding), picture);
     }
-    let up = into.decimals - decimals;
-    if size < ten(into.digits - up) {
-        store(negative, size * ten(up), into)
+    let up = picture.decimals - decimals;
+    if size < ten(picture.digits - up) {
+        store(negative, size * ten(up), picture)
     } else {
         Err(ArithmeticError::TooWide)
     }
 }
 
 // The size of a quotient of two amounts as a count of the result's decimals.
-fn quotient_size(dividend: Amount, divisor: Amount, rounding: Rounding, decimals: u8) -> u64
-    requires scale { decimals + divisor.picture.decimals ≤ dividend.picture.decimals + widest }
+fn quotient_size(dividend: Amount, divisor: Amount, into: Target) -> u64
+    requires scale { into.picture.decimals + divisor.picture.decimals ≤ dividend.picture.decimals + widest }
     requires divisor { 1 ≤ unsigned_abs divisor.count }
-    ensures { result ≡ taken rounding (unsigned_abs dividend.count * 10 ^ divisor.picture.decimals * 10 ^ decimals) (10 ^ dividend.picture.decimals * unsigned_abs divisor.count) }
+    ensures { result ≡ taken into.rounding (unsigned_abs dividend.count * 10 ^ divisor.picture.decimals * 10 ^ into.picture.decimals) (10 ^ dividend.picture.decimals * unsigned_abs divisor.count) }
 {
     let above = dividend.size();
     let below = divisor.size();
-    let up = decimals + divisor.picture.decimals;
+    let up = into.picture.decimals + divisor.picture.decimals;
     let down = dividend.picture.decimals;
     if up >= down {
-        quotient(above * ten(up - down), below, rounding)
+        quotient(above * ten(up - down), below, into.rounding)
     } else {
-        quotient(above, below * ten(down - up), rounding)
+        quotient(above, below * ten(down - up), into.rounding)
     }
 }

@@ -1,4 +1,6 @@
-// The plain types of the crate: how to round, what a call can refuse, and what a last column counts.
+// The plain types of the crate: how to round, what a result goes into, what a call can refuse, and what a last column
+// counts.
+use crate::picture::Picture;
 
 // How an exact value becomes a count of the result's last decimal place.
 #[derive(Clone, Copy, PartialEq, Eq, Debug)]
@@ -7,6 +9,13 @@ pub enum Rounding {
     Cut,
     // To the nearest count, halves away from zero.
     HalfAdjust,
+}
+
+// What a result is stored into: its picture, and how the exact value is brought to it.
+#[derive(Clone, Copy, PartialEq, Eq, Debug)]
+pub struct Target {
+    pub picture: Picture,
+    pub rounding: Rounding,
 }
 
 // Why columns do not read as an amount.

@@ -23,5 +23,5 @@ mod powers;
 mod reading;
 
 pub use amount::Amount;
-pub use kinds::{ArithmeticError, ReadError, Rounding};
+pub use kinds::{ArithmeticError, ReadError, Rounding, Target};
 pub use picture::{Picture, WIDEST};

@@ -43,14 +43,10 @@ fn read_field(columns: &[u8], first: u8) -> Result<i64, ReadError>
     ensures value { result ≡ read_field first columns.now }
     ensures small { IfOk result (λ v. unsigned_abs v < 10 ^ length columns.now) }
 {
-    let before_last = columns.len() - 1;
-    let front = read_digits(&columns[..before_last], first)?;
-    let Some(last) = last_digit(columns[before_last]) else {
-        return Err(ReadError::Column {
-            column: first as u16 + before_last as u16,
-        });
-    };
-    Ok(with_sign(last.negative, front * 10 + last.digit as u64))
+    let (last, front) = columns.split_last().ok_or(ReadError::Width)?;
+    let value = read_digits(front, first)?;
+    let last = last_digit(*last).ok_or(wrong(first, front.len()))?;
+    Ok(with_sign(last.negative, value * 10 + last.digit as u64))
 }
 
 // The count of columns before the last, or the first wrong one.
@@ -62,14 +58,20 @@ fn read_digits(columns: &[u8], first: u8) -> Result<u64, ReadError>
 {
     let mut value: u64 = 0;
     for (i, b) in columns.iter().enumerate() {
-        let Some(d) = digit(*b) else {
-            return Err(ReadError::Column {
-                column: first as u16 + i as u16,
-            });
-        };
+        let d = digit(*b).ok_or(wrong(first, i))?;
         value = value * 10 + d as u64;
     }
     Ok(value)
+}
+
+// The refusal of the column that is i behind the first.
+fn wrong(first: u8, i: usize) -> ReadError
+    requires { i ≤ widest }
+    ensures { result ≡ ReadError.Column (first + i) }
+{
+    ReadError::Column {
+        column: first as u16 + i as u16,
+    }
 }
 
 // What a column counts: a digit itself, a blank 0.
@@ -90,31 +92,18 @@ fn last_digit(b: u8) -> Option<Punch>
     ensures small { IfSome result (λ p. p.digit ≤ 9) }
 {
     match b {
-        b' ' | b'{' => Some(plus(0)),
-        b'0'..=b'9' => Some(plus(b - b'0')),
-        b'A'..=b'I' => Some(plus(b - b'@')),
-        b'}' => Some(minus(0)),
-        b'J'..=b'R' => Some(minus(b - b'I')),
-        _ => None,
+        b'{' => Some(punch(false, 0)),
+        b'A'..=b'I' => Some(punch(false, b - b'@')),
+        b'}' => Some(punch(true, 0)),
+        b'J'..=b'R' => Some(punch(true, b - b'I')),
+        _ => digit(b).map(|d| punch(false, d)),
     }
 }
 
-fn plus(digit: u8) -> Punch
-    ensures { Some result ≡ punch false digit }
+fn punch(negative: bool, digit: u8) -> Punch
+    ensures { Some result ≡ punch negative digit }
 {
-    Punch {
-        negative: false,
-        digit,
-    }
-}
-
-fn minus(digit: u8) -> Punch
-    ensures { Some result ≡ punch true digit }
-{
-    Punch {
-        negative: true,
-        digit,
-    }
+    Punch { negative, digit }
 }
 
 // The number of a size and a sign; zero has no sign.

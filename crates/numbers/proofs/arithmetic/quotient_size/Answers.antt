@@ -20,9 +20,9 @@ quotient-requires-else-up-down c =
 pub returns-then-up-down : goal.returns-then-up-down
 returns-then-up-down c =
     c.quotient.ensures ∙ rw (c.ten.ensures.value, c.size-above.ensures.value, c.size-below.ensures.value)
-    (quotient_up c.args.rounding (nat_abs c.args.dividend.count) (nat_abs c.args.divisor.count) c.args.divisor.picture.decimals c.args.decimals c.args.dividend.picture.decimals c.requires.divisor c.if-up-down.true)
+    (quotient_up c.args.into.rounding (nat_abs c.args.dividend.count) (nat_abs c.args.divisor.count) c.args.divisor.picture.decimals c.args.into.picture.decimals c.args.dividend.picture.decimals c.requires.divisor c.if-up-down.true)
 
 pub returns-else-up-down : goal.returns-else-up-down
 returns-else-up-down c =
     c.quotient-else-up-down.ensures ∙ rw (c.ten-else-up-down.ensures.value, c.size-above.ensures.value, c.size-below.ensures.value)
-    (quotient_down c.args.rounding (nat_abs c.args.dividend.count) (nat_abs c.args.divisor.count) c.args.divisor.picture.decimals c.args.decimals c.args.dividend.picture.decimals c.requires.divisor (omega arith))
+    (quotient_down c.args.into.rounding (nat_abs c.args.dividend.count) (nat_abs c.args.divisor.count) c.args.divisor.picture.decimals c.args.into.picture.decimals c.args.dividend.picture.decimals c.requires.divisor (omega arith))

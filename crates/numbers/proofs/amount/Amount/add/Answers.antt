@@ -27,7 +27,7 @@ returns c =
     let z : SFits w64 (c.finer-left.result +ℤ c.finer-right.result) = fits (c.finer-left.result +ℤ c.finer-right.result) (omega arith) in
     let e = simp to_z-of_z at c.rescaled.ensures.count in
     record {
-      count = e ∙ settled_sum c.args.rounding c.args.into.digits c.args.into.decimals c.args.self.count c.args.other.count
+      count = e ∙ settled_sum c.args.into.rounding c.args.into.picture.digits c.args.into.picture.decimals c.args.self.count c.args.other.count
           c.args.self.picture.decimals c.args.other.picture.decimals c.max-decimals.result c.finer-left.result c.finer-right.result
           (omega arith) (omega arith) c.finer-left.ensures.value c.finer-right.ensures.value;
       picture = c.rescaled.ensures.picture;

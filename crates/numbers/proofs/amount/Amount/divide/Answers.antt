@@ -6,11 +6,11 @@ use Rattle.numbers.proofs.amount.Amount.divide.Goals as goal
 
 pub returns : goal.returns
 returns c =
-    let s : ltb (c.args.self.picture.decimals + widest) (c.args.into.decimals + c.args.by.picture.decimals) ≡ false = grind (arith, nat_tests) in
+    let s : ltb (c.args.self.picture.decimals + widest) (c.args.into.picture.decimals + c.args.by.picture.decimals) ≡ false = grind (arith, nat_tests) in
     let o : 1 ≤ nat_abs c.args.by.count = search rules in
     let z : eqb (nat_abs c.args.by.count) 0 ≡ false = grind (arith, nat_tests) in
     record {
-      count = c.store.ensures.count ∙ rw (c.is_negative.ensures, s, z) (settled_quotient c.args.rounding c.args.into.digits c.args.into.decimals c.args.self.count c.args.by.count
+      count = c.store.ensures.count ∙ rw (c.is_negative.ensures, s, z) (settled_quotient c.args.into.rounding c.args.into.picture.digits c.args.into.picture.decimals c.args.self.count c.args.by.count
           c.args.self.picture.decimals c.args.by.picture.decimals c.signed_by-dividend.result.count c.quotient_size.result
           c.signed_by-dividend.ensures.count (c.quotient_size.ensures ∙ rw c.signed_by-dividend.ensures.picture refl));
       picture = c.store.ensures.picture;

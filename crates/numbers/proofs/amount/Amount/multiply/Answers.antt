@@ -12,7 +12,7 @@ returns c =
     let v = simp to_z-of_z at c.product.ensures.value in
     let e = simp to_z-of_z at c.rescaled.ensures.count in
     record {
-      count = e ∙ settled_product c.args.rounding c.args.into.digits c.args.into.decimals c.args.self.count c.args.other.count
+      count = e ∙ settled_product c.args.into.rounding c.args.into.picture.digits c.args.into.picture.decimals c.args.self.count c.args.other.count
           c.args.self.picture.decimals c.args.other.picture.decimals c.product.result v;
       picture = c.rescaled.ensures.picture;
     }
