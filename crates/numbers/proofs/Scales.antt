@@ -13,24 +13,18 @@ use Rattle.numbers.proofs.Tens.{ten_some}
 pub nat_abs_scaled : (z : ℤ) (n : ℕ) → nat_abs (z *ℤ pos n) ≡ nat_abs z * n
 nat_abs_scaled z n = grind arith
 
-negative_neg : (k : ℕ) → 0 < k → negative (neg_ℤ (pos k)) ≡ true
-negative_neg zero h = absurd (omega arith)
-negative_neg (suc k) h = refl
-
 pub negative_scaled : (z : ℤ) (n : ℕ) → 0 < n → negative (z *ℤ pos n) ≡ negative z
-negative_scaled (pos a) n h = refl
-negative_scaled (negsuc a) n h = negative_neg (suc a * n) (omega arith)
+negative_scaled z n h = grind arith
 
-neg_scaled : (k n : ℕ) → neg_ℤ (pos k) *ℤ pos n ≡ neg_ℤ (pos (k * n))
-neg_scaled zero n = let e : 0 * n ≡ 0 = omega arith in rw e refl
-neg_scaled (suc k) n = refl
+pub neg_scaled : (z : ℤ) (n : ℕ) → neg_ℤ z *ℤ pos n ≡ neg_ℤ (z *ℤ pos n)
+neg_scaled z n = grind arith
 
 pub scaled_scaled : (z : ℤ) (m n : ℕ) → (z *ℤ pos m) *ℤ pos n ≡ z *ℤ pos (m * n)
-scaled_scaled (pos a) m n = ap pos (mul_assoc a m n)
-scaled_scaled (negsuc a) m n = neg_scaled (suc a * m) n ∙ ap (λ k. neg_ℤ (pos k)) (mul_assoc (suc a) m n)
+scaled_scaled (pos a) m n = grind (arith, mul_assoc)
+scaled_scaled (negsuc a) m n = grind (arith, neg_scaled (pos (suc a * m)) n, mul_assoc)
 
 scaled_more : (z : ℤ) (n : ℕ) → z *ℤ pos (suc n) ≡ z *ℤ pos n +ℤ z
-scaled_more z n = *ℤ_comm z (pos (suc n)) ∙ suc_ℤ-*ℤ (pos n) z ∙ ap (λ x. x +ℤ z) (*ℤ_comm (pos n) z)
+scaled_more z n = grind (arith, *ℤ_comm, suc_ℤ-*ℤ)
 
 pub sum_scaled : (x y : ℤ) (n : ℕ) → (x +ℤ y) *ℤ pos n ≡ x *ℤ pos n +ℤ y *ℤ pos n
 sum_scaled x y zero = rw (*ℤ-zero (x +ℤ y), *ℤ-zero x, *ℤ-zero y) refl
@@ -39,10 +33,7 @@ sum_scaled x y (suc n) =
     let b = scaled_more y n in
     let s = scaled_more (x +ℤ y) n in
     let h = sum_scaled x y n in
-    rw (a, b, s, h) (regrouped (x *ℤ pos n) (y *ℤ pos n) x y)
-  where
-    regrouped : (p q x y : ℤ) → (p +ℤ q) +ℤ (x +ℤ y) ≡ (p +ℤ x) +ℤ (q +ℤ y)
-    regrouped p q x y = omega (arith, ints)
+    omega (arith, ints)
 
 -- fractions of one value are taken alike
 cut_same : (n d m e : ℕ) → 0 < d → 0 < e → n * e ≡ m * d → n / d ≡ m / e
@@ -60,19 +51,14 @@ taken_whole HalfAdjust x y h = div-eq_of_lt-le (2 * y) (omega arith) (omega arit
 
 pub units_same : (r : Rounding) (d : ℕ) (f g : Fraction) → 0 < f.den → 0 < g.den → Same f g → units r d f ≡ units r d g
 units_same r d f g p q h =
-    let s : negative f.num ≡ negative g.num = sym (negative_scaled f.num g.den q) ∙ ap negative h ∙ negative_scaled g.num f.den p in
-    let n : nat_abs f.num * g.den ≡ nat_abs g.num * f.den = sym (nat_abs_scaled f.num g.den) ∙ ap nat_abs h ∙ nat_abs_scaled g.num f.den in
+    let s : negative f.num ≡ negative g.num = grind (arith, negative_scaled, h) in
+    let n : nat_abs f.num * g.den ≡ nat_abs g.num * f.den = grind (arith, nat_abs_scaled, h) in
     let t : taken r (nat_abs f.num * 10 ^ d) f.den ≡ taken r (nat_abs g.num * 10 ^ d) g.den =
-    taken_same r (nat_abs f.num * 10 ^ d) f.den (nat_abs g.num * 10 ^ d) g.den p q (apart (nat_abs f.num) (10 ^ d) g.den (nat_abs g.num) f.den n) in
+    taken_same r (nat_abs f.num * 10 ^ d) f.den (nat_abs g.num * 10 ^ d) g.den p q (omega (arith, ap (λ x. x * 10 ^ d) n)) in
     rw (s, t) refl
-  where
-    apart : (a t e b c : ℕ) → a * e ≡ b * c → a * t * e ≡ b * t * c
-    apart a t e b c h = let k : a * e * t ≡ b * c * t = ap (λ x. x * t) h in omega arith
 
 pub nat_abs_signed : (b : Bool) (n : ℕ) → nat_abs (signed b n) ≡ n
-nat_abs_signed false n = refl
-nat_abs_signed true zero = refl
-nat_abs_signed true (suc n) = refl
+nat_abs_signed b n = grind arith
 
 -- the size of a count, by the inequalities that single it out
 Size : Rounding → ℕ → ℕ → ℕ → Type 0
@@ -116,7 +102,7 @@ units_is r d f h =
     let a : nat_abs (units r d f) ≡ taken r N f.den = nat_abs_signed (negative f.num) (taken r N f.den) in
     let s = negative_scaled f.num (10 ^ d) (ten_some d) in
     let n = nat_abs_scaled f.num (10 ^ d) in
-    is_from r (f.num *ℤ pos (10 ^ d)) f.den (units r d f) (rw (a, s) refl) (rw (a, n) (size_is r N f.den h))
+    is_from r (f.num *ℤ pos (10 ^ d)) f.den (units r d f) (rw (a, s)) (rw (a, n) (size_is r N f.den h))
 
 units_only : (r : Rounding) (d : ℕ) (f : Fraction) (q : ℤ) → 0 < f.den → Is r (f.num *ℤ pos (10 ^ d)) f.den q → q ≡ units r d f
 units_only r d f q h i =

@@ -132,7 +132,8 @@ fn quotient(size: u64, unit: u64, rounding: Rounding) -> u64
     requires some { 1 ≤ unit }
     requires size { size < 2 * 10 ^ (widest + widest) }
     requires unit { unit ≤ 10 ^ (widest + widest) }
-    ensures { result ≡ taken rounding size unit }
+    ensures value { result ≡ taken rounding size unit }
+    ensures small { result ≤ size }
 {
     match rounding {
         Rounding::Cut => size / unit,
@@ -141,19 +142,12 @@ fn quotient(size: u64, unit: u64, rounding: Rounding) -> u64
 }
 
 // The amount of a size and a sign, unless it is too wide.
-fn store(negative: bool, size: u64, into: Picture) -> Result<Amount, ArithmeticError>
-    ensures count { counted result ≡ stored into.digits (signed negative size) }
-    ensures picture { Pictured result into }
+fn store(negative: bool, size: u64, picture: Picture) -> Result<Amount, ArithmeticError>
+    requires { size < 2 ^ 63 }
+    ensures count { counted result ≡ stored picture.digits (signed negative size) }
+    ensures picture { Pictured result picture }
 {
-    if size < ten(into.digits) {
-        let count = with_sign(negative, size);
-        Ok(Amount {
-            count,
-            picture: into,
-        })
-    } else {
-        Err(ArithmeticError::TooWide)
-    }
+    Amount::new(with_sign(negative, size), picture).ok_or(ArithmeticError::TooWide)
 }
 
 // A count of the given decimals, cut or rounded into the picture of the result. What has fewer decimals than
@@ -183,7 +177,8 @@ fn rescaled(count: i64, decimals: u8, into: Target) -> Result<Amount, Arithmetic
 fn quotient_size(dividend: Amount, divisor: Amount, into: Target) -> u64
     requires scale { into.picture.decimals + divisor.picture.decimals ≤ dividend.picture.decimals + widest }
     requires divisor { 1 ≤ unsigned_abs divisor.count }
-    ensures { result ≡ taken into.rounding (unsigned_abs dividend.count * 10 ^ divisor.picture.decimals * 10 ^ into.picture.decimals) (10 ^ dividend.picture.decimals * unsigned_abs divisor.count) }
+    ensures size { result ≡ taken into.rounding (unsigned_abs dividend.count * 10 ^ divisor.picture.decimals * 10 ^ into.picture.decimals) (10 ^ dividend.picture.decimals * unsigned_abs divisor.count) }
+    ensures small { result < 10 ^ (widest + widest) }
 {
     let above = dividend.size();
     let below = divisor.size();

@@ -1,4 +1,4 @@
-// Powers of ten, from a table: up to the size of a product of two counts.
+// Powers of ten, up to the size of a product of two counts. From a table: `pow` took 2 to 16 times as long.
 ghost use Rattle.std.specs.Prelude.{◌≡◌, ◌+◌, ◌^◌, ◌≤◌};
 ghost use Rattle.numbers.specs.Limits.{widest};
 

@@ -16,7 +16,7 @@ impl Amount {
         ensures count { counted result ≡ read_amount picture.digits first columns.now }
         ensures picture { Pictured result picture }
     {
-        if columns.len() != picture.digits as usize {
+        if columns.len() != usize::from(picture.digits) {
             return Err(ReadError::Width);
         }
         let count = read_field(columns, first)?;
@@ -46,7 +46,7 @@ fn read_field(columns: &[u8], first: u8) -> Result<i64, ReadError>
     let (last, front) = columns.split_last().ok_or(ReadError::Width)?;
     let value = read_digits(front, first)?;
     let last = last_digit(*last).ok_or(wrong(first, front.len()))?;
-    Ok(with_sign(last.negative, value * 10 + last.digit as u64))
+    Ok(with_sign(last.negative, value * 10 + u64::from(last.digit)))
 }
 
 // The count of columns before the last, or the first wrong one.
@@ -59,7 +59,7 @@ fn read_digits(columns: &[u8], first: u8) -> Result<u64, ReadError>
     let mut value: u64 = 0;
     for (i, b) in columns.iter().enumerate() {
         let d = digit(*b).ok_or(wrong(first, i))?;
-        value = value * 10 + d as u64;
+        value = value * 10 + u64::from(d);
     }
     Ok(value)
 }
@@ -70,7 +70,7 @@ fn wrong(first: u8, i: usize) -> ReadError
     ensures { result ≡ ReadError.Column (first + i) }
 {
     ReadError::Column {
-        column: first as u16 + i as u16,
+        column: u16::from(first) + i as u16,
     }
 }
 
@@ -108,7 +108,7 @@ fn punch(negative: bool, digit: u8) -> Punch
 
 // The number of a size and a sign; zero has no sign.
 pub(crate) fn with_sign(negative: bool, size: u64) -> i64
-    requires { size < 10 ^ (widest + widest) }
+    requires { size < 2 ^ 63 }
     ensures value { result ≡ signed negative size }
     ensures size { unsigned_abs result ≡ size }
 {
