@@ -1,6 +1,5 @@
 -- The results of a calculation: counts brought to the decimals of the result.
-use Rattle.std.proofs.Common.{◌≡◌, ℕ, zero, suc, ◌+◌, ◌-◌, ◌*◌, ◌^◌, ◌<◌, ◌≤◌, Bool, true, false, ltb, ℤ, pos, negsuc, ◌+ℤ◌, ◌*ℤ◌, neg_ℤ, nat_abs, Err, sym, refl, ap, ◌∙◌, mul-le-mul_right, mul_assoc, mul_comm, arith, pow-add}
-use lib.IntN.{neg_ℤ-neg_ℤ}
+use Rattle.std.proofs.Common.{◌≡◌, ℕ, ◌+◌, ◌-◌, ◌*◌, ◌^◌, ◌<◌, ◌≤◌, Bool, ℤ, pos, ◌+ℤ◌, ◌*ℤ◌, neg_ℤ, nat_abs, Err, refl, ap, mul-le-mul_right, arith, pow-add}
 use Rattle.std.proofs.lemmas.Bool.Decides.{nat_tests}
 use Rattle.numbers.specs.declared.kinds.Rounding.{Rounding}
 use Rattle.numbers.specs.declared.kinds.ArithmeticError.TheVariants.{TooWide}

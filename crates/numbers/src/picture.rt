@@ -21,7 +21,8 @@ impl Picture {
         ensures made { is_some result ≡ is_picture digits decimals }
         ensures parts { IfSome result (λ p. (p.digits ≡ digits) × (p.decimals ≡ decimals)) }
     {
-        if 1 <= digits && digits <= WIDEST && decimals <= digits {
+        // Not `then_some`, which would make the picture before the test.
+        if (1..=WIDEST).contains(&digits) && decimals <= digits {
             Some(Picture { digits, decimals })
         } else {
             None

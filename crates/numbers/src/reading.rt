@@ -54,7 +54,6 @@ fn read_digits(columns: &[u8], first: u8) -> Result<u64, ReadError>
     requires few { length columns.now ≤ widest }
     ensures value { result ≡ read_on 0 first columns.now }
     ensures small { IfOk result (λ v. v < 10 ^ length columns.now) }
-    ensures fits { IfOk result (λ v. v < 10 ^ widest) }
 {
     let mut value: u64 = 0;
     for (i, b) in columns.iter().enumerate() {

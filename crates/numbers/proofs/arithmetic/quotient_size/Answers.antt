@@ -1,4 +1,4 @@
-use Rattle.std.proofs.Common.{nat_abs, arith}
+use Rattle.std.proofs.Common.{arith}
 use Rattle.numbers.proofs.Settles.{quotient_up, quotient_down}
 use Rattle.numbers.proofs.arithmetic.quotient_size.Goals as goal
 
