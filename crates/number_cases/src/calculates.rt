@@ -14,23 +14,19 @@ struct Placed {
 }
 
 pub fn pairs(rt: &HostRuntime) -> io::Result<()> {
-    for (place, case) in AMOUNTS.iter().enumerate() {
-        if let Some(amount) = case.amount() {
-            let a = Placed { place, amount };
-            with_each(rt, a)?;
-            from_zero(rt, a)?;
-        }
+    for (place, amount) in AMOUNTS.into_iter().enumerate() {
+        let a = Placed { place, amount };
+        with_each(rt, a)?;
+        from_zero(rt, a)?;
     }
     Ok(())
 }
 
 fn with_each(rt: &HostRuntime, a: Placed) -> io::Result<()> {
-    for (place, case) in AMOUNTS.iter().enumerate() {
-        if let Some(amount) = case.amount() {
-            let b = Placed { place, amount };
-            order(rt, a, b)?;
-            into_each(rt, a, b)?;
-        }
+    for (place, amount) in AMOUNTS.into_iter().enumerate() {
+        let b = Placed { place, amount };
+        order(rt, a, b)?;
+        into_each(rt, a, b)?;
     }
     Ok(())
 }
@@ -53,11 +49,9 @@ fn sign(order: Ordering) -> &'static str {
 }
 
 fn into_each(rt: &HostRuntime, a: Placed, b: Placed) -> io::Result<()> {
-    for (k, shape) in RESULTS.iter().enumerate() {
-        if let Some(picture) = shape.picture() {
-            for rounding in [Rounding::Cut, Rounding::HalfAdjust] {
-                four(rt, a, b, k, Target { picture, rounding })?;
-            }
+    for (k, picture) in RESULTS.into_iter().enumerate() {
+        for rounding in [Rounding::Cut, Rounding::HalfAdjust] {
+            four(rt, a, b, k, Target { picture, rounding })?;
         }
     }
     Ok(())
@@ -83,8 +77,9 @@ fn four(rt: &HostRuntime, a: Placed, b: Placed, k: usize, into: Target) -> io::R
 
 // An amount added to zero, and taken from it.
 fn from_zero(rt: &HostRuntime, a: Placed) -> io::Result<()> {
-    let Some(picture) = Picture::new(5, 2) else {
-        return Ok(());
+    let picture = Picture {
+        digits: 5,
+        decimals: 2,
     };
     let into = Target {
         picture,

@@ -1,129 +1,130 @@
 // The amounts, pictures and fields that the cases are made of.
 use numbers::{Amount, Picture};
 
-// Digits and decimals that may or may not be a picture.
-#[derive(Clone, Copy)]
-pub struct Shape {
-    pub digits: u8,
-    pub decimals: u8,
-}
-
-impl Shape {
-    pub fn picture(self) -> Option<Picture> {
-        Picture::new(self.digits, self.decimals)
-    }
-}
-
-// An amount by its count and picture, where they make one.
-#[derive(Clone, Copy)]
-pub struct Case {
-    pub count: i64,
-    pub digits: u8,
-    pub decimals: u8,
-}
-
-impl Case {
-    pub fn amount(self) -> Option<Amount> {
-        Amount::new(self.count, Picture::new(self.digits, self.decimals)?)
-    }
-}
-
-pub const AMOUNTS: [Case; 14] = [
-    Case {
+pub const AMOUNTS: [Amount; 14] = [
+    Amount {
         count: 0,
-        digits: 1,
-        decimals: 0,
+        picture: Picture {
+            digits: 1,
+            decimals: 0,
+        },
     },
-    Case {
+    Amount {
         count: 1,
-        digits: 1,
-        decimals: 0,
+        picture: Picture {
+            digits: 1,
+            decimals: 0,
+        },
     },
-    Case {
+    Amount {
         count: -1,
-        digits: 1,
-        decimals: 0,
+        picture: Picture {
+            digits: 1,
+            decimals: 0,
+        },
     },
-    Case {
+    Amount {
         count: 8,
-        digits: 2,
-        decimals: 0,
+        picture: Picture {
+            digits: 2,
+            decimals: 0,
+        },
     },
-    Case {
+    Amount {
         count: 5,
-        digits: 2,
-        decimals: 1,
+        picture: Picture {
+            digits: 2,
+            decimals: 1,
+        },
     },
-    Case {
+    Amount {
         count: -15,
-        digits: 3,
-        decimals: 1,
+        picture: Picture {
+            digits: 3,
+            decimals: 1,
+        },
     },
-    Case {
+    Amount {
         count: 150,
-        digits: 5,
-        decimals: 2,
+        picture: Picture {
+            digits: 5,
+            decimals: 2,
+        },
     },
-    Case {
+    Amount {
         count: 99999,
-        digits: 5,
-        decimals: 2,
+        picture: Picture {
+            digits: 5,
+            decimals: 2,
+        },
     },
-    Case {
+    Amount {
         count: 1,
-        digits: 3,
-        decimals: 2,
+        picture: Picture {
+            digits: 3,
+            decimals: 2,
+        },
     },
-    Case {
+    Amount {
         count: -3,
-        digits: 4,
-        decimals: 3,
+        picture: Picture {
+            digits: 4,
+            decimals: 3,
+        },
     },
-    Case {
+    Amount {
         count: 999999999,
-        digits: 9,
-        decimals: 0,
+        picture: Picture {
+            digits: 9,
+            decimals: 0,
+        },
     },
-    Case {
+    Amount {
         count: -999999999,
-        digits: 9,
-        decimals: 0,
+        picture: Picture {
+            digits: 9,
+            decimals: 0,
+        },
     },
-    Case {
+    Amount {
         count: 999999999,
-        digits: 9,
-        decimals: 9,
+        picture: Picture {
+            digits: 9,
+            decimals: 9,
+        },
     },
-    Case {
+    Amount {
         count: -123456789,
-        digits: 9,
-        decimals: 4,
+        picture: Picture {
+            digits: 9,
+            decimals: 4,
+        },
     },
 ];
 
 // The pictures of results.
-pub const RESULTS: [Shape; 6] = [
-    Shape {
+pub const RESULTS: [Picture; 6] = [
+    Picture {
         digits: 1,
         decimals: 0,
     },
-    Shape {
+    Picture {
         digits: 5,
         decimals: 2,
     },
-    Shape {
+    Picture {
         digits: 9,
         decimals: 0,
     },
-    Shape {
+    Picture {
         digits: 9,
         decimals: 9,
     },
-    Shape {
+    Picture {
         digits: 9,
         decimals: 4,
     },
-    Shape {
+    Picture {
         digits: 3,
         decimals: 3,
     },

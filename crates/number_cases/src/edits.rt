@@ -1,5 +1,4 @@
 // Edit codes, the images of each, and laying one into a line.
-use crate::cases::Case;
 use crate::row::{Cell, Row, text};
 use images::{EditCode, EditStyle, Image, LINE_COLUMNS, LayError, SignStyle, image_width};
 use numbers::{Amount, Picture};
@@ -101,15 +100,15 @@ fn barred(rt: &HostRuntime, image: Image) -> io::Result<()> {
 
 // An image laid up to columns in and out of a line.
 pub fn lines(rt: &HostRuntime) -> io::Result<()> {
-    let case = Case {
+    let amount = Amount {
         count: -123450,
-        digits: 7,
-        decimals: 2,
+        picture: Picture {
+            digits: 7,
+            decimals: 2,
+        },
     };
-    if let Some(amount) = case.amount() {
-        for end in [0, 1, 9, 10, 11, 131, 132, 133, 255] {
-            line(rt, Image::edited(amount, EditCode::K), end)?;
-        }
+    for end in [0, 1, 9, 10, 11, 131, 132, 133, 255] {
+        line(rt, Image::edited(amount, EditCode::K), end)?;
     }
     Ok(())
 }

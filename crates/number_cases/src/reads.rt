@@ -36,8 +36,9 @@ fn counts(rt: &HostRuntime, picture: Picture) -> io::Result<()> {
 
 // Every byte in a last and in another column.
 pub fn all_bytes(rt: &HostRuntime) -> io::Result<()> {
-    let Some(picture) = Picture::new(3, 0) else {
-        return Ok(());
+    let picture = Picture {
+        digits: 3,
+        decimals: 0,
     };
     for byte in 0u8..=255 {
         in_both(rt, byte, picture)?;
