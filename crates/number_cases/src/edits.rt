@@ -32,9 +32,9 @@ fn asks(rt: &HostRuntime, byte: u8, style: EditStyle) -> io::Result<()> {
     };
     rt.println(Row(&[
         Cell::Word("code"),
-        Cell::Number(byte as i64),
-        Cell::Number(style.commas as i64),
-        Cell::Number(style.blank_zero as i64),
+        Cell::Number(i64::from(byte)),
+        Cell::Number(i64::from(style.commas)),
+        Cell::Number(i64::from(style.blank_zero)),
         Cell::Number(sign),
     ]))
 }
@@ -55,9 +55,9 @@ pub fn images(rt: &HostRuntime) -> io::Result<()> {
 fn widths(rt: &HostRuntime, picture: Picture) -> io::Result<()> {
     rt.print(Row(&[
         Cell::Word("width"),
-        Cell::Number(picture.digits as i64),
-        Cell::Number(picture.decimals as i64),
-        Cell::Number(image_width(picture, None) as i64),
+        Cell::Number(i64::from(picture.digits)),
+        Cell::Number(i64::from(picture.decimals)),
+        Cell::Number(i64::from(image_width(picture, None))),
     ]))?;
     for code in CODES {
         let width = image_width(picture, Some(code));
@@ -80,8 +80,8 @@ fn values(rt: &HostRuntime, picture: Picture) -> io::Result<()> {
 fn each(rt: &HostRuntime, amount: Amount) -> io::Result<()> {
     rt.print(Row(&[
         Cell::Word("image"),
-        Cell::Number(amount.picture.digits as i64),
-        Cell::Number(amount.picture.decimals as i64),
+        Cell::Number(i64::from(amount.picture.digits)),
+        Cell::Number(i64::from(amount.picture.decimals)),
         Cell::Number(amount.count),
         Cell::Word("|"),
     ]))?;
@@ -122,7 +122,7 @@ fn line(rt: &HostRuntime, image: Image, end: u8) -> io::Result<()> {
     };
     rt.println(Row(&[
         Cell::Word("lay"),
-        Cell::Number(end as i64),
+        Cell::Number(i64::from(end)),
         Cell::Word(laid),
         Cell::Text(&line),
     ]))

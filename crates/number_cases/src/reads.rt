@@ -21,8 +21,8 @@ pub fn pictures(rt: &HostRuntime) -> io::Result<()> {
 fn counts(rt: &HostRuntime, picture: Picture) -> io::Result<()> {
     rt.print(Row(&[
         Cell::Word("picture"),
-        Cell::Number(picture.digits as i64),
-        Cell::Number(picture.decimals as i64),
+        Cell::Number(i64::from(picture.digits)),
+        Cell::Number(i64::from(picture.decimals)),
     ]))?;
     let limit = 10i64.pow(u32::from(picture.digits));
     for count in [limit - 1, limit, -limit] {

@@ -95,6 +95,7 @@ fn finer(amount: Amount, k: u8) -> i64
     product(amount.count, ten(k) as i64)
 }
 
+// A function of its own, since its bound serves a count made finer and a product of two counts.
 fn product(a: i64, b: i64) -> i64
     requires a { unsigned_abs a < 10 ^ widest }
     requires b { unsigned_abs b ≤ 10 ^ widest }
