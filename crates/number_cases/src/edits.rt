@@ -26,16 +26,12 @@ pub fn codes(rt: &HostRuntime) -> io::Result<()> {
 }
 
 fn asks(rt: &HostRuntime, byte: u8, style: EditStyle) -> io::Result<()> {
-    let sign = match style.sign {
-        SignStyle::Omitted => 0,
-        SignStyle::Minus => 1,
-    };
     rt.println(Row(&[
         Cell::Word("code"),
         Cell::Number(i64::from(byte)),
         Cell::Number(i64::from(style.commas)),
         Cell::Number(i64::from(style.blank_zero)),
-        Cell::Number(sign),
+        Cell::Number(i64::from(style.sign == SignStyle::Minus)),
     ]))
 }
 
