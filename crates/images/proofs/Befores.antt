@@ -36,7 +36,7 @@ put_part l e w xs n h k =
     rw (drop-drop (e - (e - w)) (e - w) l, m, n) refl
 
 -- the same, as the laying of an image
-pub laid_part : (l : List ℕ) (e w : ℕ) (xs ys : List ℕ) → ys ≡ xs → length xs ≡ w → (e ≡ 0 → ⊥) → e ≤ line_columns → w ≤ e → e ≤ length l → put_mid (e - w) (e - (e - w)) l ys ≡ laid l e xs
+pub laid_part : (l : List ℕ) (e w : ℕ) (xs ys : List ℕ) → ys ≡ xs → length xs ≡ w → 0 < e → e ≤ line_columns → w ≤ e → e ≤ length l → put_mid (e - w) (e - (e - w)) l ys ≡ laid l e xs
 laid_part l e w xs ys y n z o h k =
     let a : (eqb e 0 || ltb line_columns e) ≡ false = grind (arith, nat_tests) in
     let b : ltb e (length xs) ≡ false = grind (arith, nat_tests) in

@@ -12,6 +12,17 @@ code_of b =
     cond (b == 49) (Some One) (cond (b == 50) (Some Two) (cond (b == 51) (Some Three) (cond (b == 52) (Some Four)
     (cond (b == 74) (Some J) (cond (b == 75) (Some K) (cond (b == 76) (Some L) (cond (b == 77) (Some M) None)))))))
 
+-- the character that stands for a code
+abbrev pub byte_of : EditCode → ℕ
+byte_of One = 49
+byte_of Two = 50
+byte_of Three = 51
+byte_of Four = 52
+byte_of J = 74
+byte_of K = 75
+byte_of L = 76
+byte_of M = 77
+
 -- a style by its parts
 abbrev pub style : Bool → Bool → SignStyle → EditStyle
 style commas blanks sign = record { commas = commas; blank_zero = blanks; sign = sign }

@@ -1,6 +1,8 @@
 // Edit codes, and what each asks of an image.
-ghost use Rattle.std.specs.Prelude.{◌≡◌};
-ghost use Rattle.images.specs.Edits.{code_of, style, style_of};
+ghost use Rattle.std.specs.Prelude.{◌≡◌, [], ◌∷◌, Some};
+ghost use Rattle.images.specs.Edits.{byte_of, code_of, style_of};
+
+use std::fmt;
 
 #[derive(Clone, Copy, PartialEq, Eq, Debug)]
 pub enum EditCode {
@@ -34,7 +36,8 @@ pub struct EditStyle {
 }
 
 impl EditCode {
-    // The edit code that a character stands for.
+    // The edit code that a character stands for. No TryFrom: why there is none is the same for every other byte, so its
+    // error would be a type that says nothing.
     pub fn from_byte(byte: u8) -> Option<EditCode>
         ensures { result ≡ code_of byte }
     {
@@ -55,25 +58,38 @@ impl EditCode {
     pub fn style(self) -> EditStyle
         ensures { result ≡ style_of self }
     {
-        match self {
-            EditCode::One => edit_style(true, false, SignStyle::Omitted),
-            EditCode::Two => edit_style(true, true, SignStyle::Omitted),
-            EditCode::Three => edit_style(false, false, SignStyle::Omitted),
-            EditCode::Four => edit_style(false, true, SignStyle::Omitted),
-            EditCode::J => edit_style(true, false, SignStyle::Minus),
-            EditCode::K => edit_style(true, true, SignStyle::Minus),
-            EditCode::L => edit_style(false, false, SignStyle::Minus),
-            EditCode::M => edit_style(false, true, SignStyle::Minus),
+        let (commas, blank_zero, sign) = match self {
+            EditCode::One => (true, false, SignStyle::Omitted),
+            EditCode::Two => (true, true, SignStyle::Omitted),
+            EditCode::Three => (false, false, SignStyle::Omitted),
+            EditCode::Four => (false, true, SignStyle::Omitted),
+            EditCode::J => (true, false, SignStyle::Minus),
+            EditCode::K => (true, true, SignStyle::Minus),
+            EditCode::L => (false, false, SignStyle::Minus),
+            EditCode::M => (false, true, SignStyle::Minus),
+        };
+        EditStyle {
+            commas,
+            blank_zero,
+            sign,
         }
     }
 }
 
-fn edit_style(commas: bool, blank_zero: bool, sign: SignStyle) -> EditStyle
-    ensures { result ≡ style commas blank_zero sign }
-{
-    EditStyle {
-        commas,
-        blank_zero,
-        sign,
+// The character that stands for the code.
+impl fmt::Display for EditCode {
+    ghost output = { λ c. Some (byte_of c ∷ []) };
+
+    fn fmt<W: fmt::Write>(&self, f: &mut fmt::Formatter<W>) -> fmt::Result {
+        f.pad(match self {
+            EditCode::One => "1",
+            EditCode::Two => "2",
+            EditCode::Three => "3",
+            EditCode::Four => "4",
+            EditCode::J => "J",
+            EditCode::K => "K",
+            EditCode::L => "L",
+            EditCode::M => "M",
+        })
     }
 }

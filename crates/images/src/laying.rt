@@ -28,8 +28,7 @@ impl Image {
     pub fn bytes(&self) -> &[u8]
         ensures { result.now ≡ image_bytes self.now }
     {
-        let bytes = &self.bytes[..];
-        &bytes[0..self.width as usize]
+        &self.bytes[..self.width as usize]
     }
 
     // Lays the image into the columns of a line up to column `end`. Every other column stays as it was, and a
@@ -39,15 +38,14 @@ impl Image {
         ensures line { line.new ≡ laid line.old end (image_bytes self.now) }
     {
         let last = end as usize;
-        if last == 0 || last > LINE_COLUMNS {
+        if !(1..=LINE_COLUMNS).contains(&last) {
             return Err(LayError::End);
         }
         let width = self.width as usize;
         if last < width {
             return Err(LayError::Start);
         }
-        let bytes = &self.bytes[..];
-        line[last - width..last].copy_from_slice(&bytes[0..width]);
+        line[last - width..last].copy_from_slice(self.bytes());
         Ok(())
     }
 }
