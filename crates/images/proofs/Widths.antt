@@ -94,10 +94,6 @@ length-edited e n d z h = at (e.blank_zero && eqb (nat_abs z) 0)
     at true = length-replicate {A = ℕ} (edited_width e n d) 32
     at false = length-shown e n d z h
 
--- an image that is no blanked zero
-pub edited-shown : (e f : EditStyle) (n d : ℕ) (z : ℤ) → (e.blank_zero && eqb (nat_abs z) 0) ≡ false → e ≡ f → blanked (text e.commas d (digits n (nat_abs z))) ++ sign_bytes e.sign (negative z) ≡ edited f n d z
-edited-shown e f n d z h k = rw (← k, h) refl
-
 pub width_stands : WidthStands
 width_stands None n d z h k = length-unedited n z h
 width_stands (Some c) n d z h k = length-edited (style_of c) n d z k

@@ -19,9 +19,10 @@ pub mod image;
 pub mod laws;
 pub mod laying;
 mod making;
+mod width;
 mod writing;
 
 pub use edits::{EditCode, EditStyle, SignStyle};
 pub use image::{IMAGE_COLUMNS, Image};
 pub use laying::{LINE_COLUMNS, LayError};
-pub use making::image_width;
+pub use width::image_width;

@@ -1,167 +1,201 @@
-// Putting the parts of an image into its columns, from the right to the left. Each function puts what it has
-// before column `end`, counted from 0, and returns where that starts.
-ghost use Rattle.std.specs.Prelude.{◌≡◌, ◌+◌, ◌-◌, ◌/◌, ◌<◌, ◌≤◌, ◌||◌, [], ◌∷◌, ◌++◌, length, ◌==◌, unsigned_abs};
+// The draft of an image: its columns are put from the right to the left, since that is how digits come.
+ghost use Rattle.std.specs.Prelude.{◌≡◌, ◌+◌, ◌<◌, ◌≤◌, [], ◌∷◌, ◌++◌, true, length, unsigned_abs};
 ghost use Rattle.std.specs.Option.{option_to_list};
-ghost use Rattle.images.specs.Limits.{image_columns};
+ghost use Rattle.characters.specs.Printable.{printable};
 ghost use Rattle.numbers.specs.Signs.{negative};
-ghost use Rattle.images.specs.Edits.{sign_width};
-ghost use Rattle.images.specs.Images.{digits as digits_of, mark, text, blanked, sign_bytes, edited_width, unedited, overpunch};
-ghost use Rattle.images.specs.Lines.{before};
+ghost use Rattle.images.specs.Limits.{image_columns};
+ghost use Rattle.images.specs.Images.{digits as digits_of, mark, text, blanked, sign_bytes, overpunch, unedited};
+ghost use Rattle.images.specs.Lines.{image_bytes};
+ghost use Rattle.images.specs.Drafts.{full, fronted, followed, fills};
 
 use crate::edits::{EditStyle, SignStyle};
-use crate::image::IMAGE_COLUMNS;
+use crate::image::{IMAGE_COLUMNS, Image};
+use crate::width::text_width;
 use numbers::Amount;
+use std::marker::Model;
+
+// The columns from `at` up to `end` are written, and those before `at` are free.
+#[derive(Drop)]
+pub(crate) struct Draft {
+    bytes: [u8; IMAGE_COLUMNS],
+    at: usize,
+    end: usize,
+}
+
+impl Model for Draft {
+    ghost use Rattle.std.specs.Prelude.{◌≡◌, ◌≤◌, length, slice_range};
+    ghost use Rattle.images.specs.Limits.{image_columns};
+    ghost use Rattle.images.specs.Drafts.{Drafted};
+
+    ghost Value = { Drafted };
+
+    ghost view = { λ d. record { room = d.at; written = slice_range d.bytes d.at d.end } };
+
+    ghost invariant = { λ d. (d.at ≤ d.end) × (d.end ≤ image_columns) × (length d.bytes ≡ image_columns) };
+}
 
 // What is put between digits.
 #[derive(Clone, Copy)]
-pub(crate) struct Marks {
-    pub commas: bool,
-    pub decimals: u8,
+struct Marks {
+    commas: bool,
+    decimals: u8,
 }
 
-// Puts an amount unedited.
-pub(crate) fn put_unedited(buffer: &mut [u8; IMAGE_COLUMNS], end: usize, amount: Amount)
-    requires first { amount.picture.digits ≤ end }
-    requires last { end ≤ image_columns }
-    ensures { buffer.new ≡ before buffer.old end (unedited amount.picture.digits amount.count) }
-{
-    let size = amount.size();
-    let at = put(
-        buffer,
-        end,
-        last_byte(amount.is_negative(), (size % 10) as u8),
-    );
-    let _first = put_digits(
-        buffer,
-        at,
-        Marks {
+impl Draft {
+    // All digits, the last of them overpunched if the amount is negative.
+    pub(crate) fn unedited(amount: Amount) -> Draft
+        ensures { result ≡ full (unedited amount.picture.digits amount.count) }
+    {
+        let size = amount.size();
+        let marks = Marks {
             commas: false,
             decimals: 0,
-        },
-        amount.picture.digits - 1,
-        size / 10,
-    );
-}
-
-// Puts an amount edited.
-pub(crate) fn put_edited(
-    buffer: &mut [u8; IMAGE_COLUMNS],
-    end: usize,
-    amount: Amount,
-    style: EditStyle,
-)
-    requires first { edited_width style amount.picture.digits amount.picture.decimals ≤ end }
-    requires last { end ≤ image_columns }
-    ensures { buffer.new ≡ before buffer.old end (blanked (text style.commas amount.picture.decimals (digits_of amount.picture.digits (unsigned_abs amount.count))) ++ sign_bytes style.sign (negative amount.count)) }
-{
-    let marks = Marks {
-        commas: style.commas,
-        decimals: amount.picture.decimals,
-    };
-    let last = put_sign(buffer, end, style.sign, amount.is_negative());
-    let first = put_digits(buffer, last, marks, amount.picture.digits, amount.size());
-    blank_front(&mut buffer[first..last]);
-}
-
-// Puts digits with their marks.
-fn put_digits(
-    buffer: &mut [u8; IMAGE_COLUMNS],
-    end: usize,
-    marks: Marks,
-    digits: u8,
-    size: u64,
-) -> usize
-    requires first { length (text marks.commas marks.decimals (digits_of digits size)) ≤ end }
-    requires last { end ≤ image_columns }
-    ensures at { result ≡ end - length (text marks.commas marks.decimals (digits_of digits size)) }
-    ensures after { buffer.new ≡ before buffer.old end (text marks.commas marks.decimals (digits_of digits size)) }
-{
-    let mut at = end;
-    let mut rest = size;
-    for k in 0..digits {
-        at = put_mark(buffer, at, marks, k);
-        at = put(buffer, at, b'0' + (rest % 10) as u8);
-        rest /= 10;
+        };
+        let mut draft = Draft::new(amount.picture.digits);
+        draft.put(last_byte(amount.is_negative(), (size % 10) as u8));
+        draft.put_digits(marks, amount.picture.digits - 1, size / 10);
+        draft
     }
-    put_mark(
-        buffer,
-        at,
-        Marks {
+
+    // The digits with their marks and a blanked front, and the sign behind them.
+    pub(crate) fn edited(amount: Amount, style: EditStyle) -> Draft
+        ensures { result ≡ full (blanked (text style.commas amount.picture.decimals (digits_of amount.picture.digits (unsigned_abs amount.count))) ++ sign_bytes style.sign (negative amount.count)) }
+    {
+        let marks = Marks {
+            commas: style.commas,
+            decimals: amount.picture.decimals,
+        };
+        let mut draft = Draft::new(text_width(amount.picture, style.commas));
+        draft.put_digits(marks, amount.picture.digits, amount.size());
+        draft.blank_front();
+        draft.push_sign(style.sign, amount.is_negative());
+        draft
+    }
+
+    // A draft of so many free columns.
+    fn new(room: u8) -> Draft
+        requires { room ≤ image_columns }
+        ensures { result ≡ record { room = room; written = [] } }
+    {
+        Draft {
+            bytes: [b' '; IMAGE_COLUMNS],
+            at: room as usize,
+            end: room as usize,
+        }
+    }
+
+    // Puts one byte before what is written.
+    fn put(&mut self, byte: u8)
+        requires { 1 ≤ self.old.room }
+        ensures { self.new ≡ fronted (byte ∷ []) self.old }
+    {
+        self.at -= 1;
+        self.bytes[self.at] = byte;
+    }
+
+    // Puts digits with their marks.
+    fn put_digits(&mut self, marks: Marks, digits: u8, size: u64)
+        requires { length (text marks.commas marks.decimals (digits_of digits size)) ≤ self.old.room }
+        ensures { self.new ≡ fronted (text marks.commas marks.decimals (digits_of digits size)) self.old }
+    {
+        let mut rest = size;
+        for k in 0..digits {
+            self.put_mark(marks, k);
+            self.put(b'0' + (rest % 10) as u8);
+            rest /= 10;
+        }
+        let front = Marks {
             commas: false,
-            decimals: marks.decimals,
-        },
-        digits,
-    )
-}
+            ..marks
+        };
+        self.put_mark(front, digits);
+    }
 
-// Puts the mark, if any, behind a digit which `k` others follow.
-fn put_mark(buffer: &mut [u8; IMAGE_COLUMNS], end: usize, marks: Marks, k: u8) -> usize
-    requires first { length (mark marks.commas marks.decimals k) ≤ end }
-    requires last { end ≤ image_columns }
-    ensures at { result ≡ end - length (mark marks.commas marks.decimals k) }
-    ensures after { buffer.new ≡ before buffer.old end (mark marks.commas marks.decimals k) }
-{
-    match mark_byte(marks, k) {
-        Some(b) => put(buffer, end, b),
-        None => end,
+    // Puts the mark, if any, behind a digit which `k` others follow.
+    fn put_mark(&mut self, marks: Marks, k: u8)
+        requires { length (mark marks.commas marks.decimals k) ≤ self.old.room }
+        ensures { self.new ≡ fronted (mark marks.commas marks.decimals k) self.old }
+    {
+        if let Some(byte) = marks.mark(k) {
+            self.put(byte);
+        }
+    }
+
+    // Blanks zeros and commas at the front; the last column stays.
+    fn blank_front(&mut self)
+        ensures { self.new ≡ record self.old { written = blanked self.old.written } }
+    {
+        blank_front(&mut self.bytes[self.at..self.end]);
+    }
+
+    // Puts what stands behind the digits.
+    fn push_sign(&mut self, sign: SignStyle, minus: bool)
+        requires { self.old.room + length self.old.written < image_columns }
+        ensures { self.new ≡ followed (sign_bytes sign minus) self.old }
+    {
+        match sign {
+            SignStyle::Omitted => {}
+            SignStyle::Minus => self.push(if minus { b'-' } else { b' ' }),
+        }
+    }
+
+    // Puts one byte behind what is written.
+    fn push(&mut self, byte: u8)
+        requires { self.old.room + length self.old.written < image_columns }
+        ensures { self.new ≡ followed (byte ∷ []) self.old }
+    {
+        self.bytes[self.end] = byte;
+        self.end += 1;
+    }
+
+    // The image, once no column is free.
+    pub(crate) fn image(self) -> Image
+        requires full { self.room ≡ 0 }
+        requires printed { printable self.written ≡ true }
+        ensures bytes { image_bytes result ≡ self.written }
+        ensures width { result.width ≡ length self.written }
+    {
+        let bytes = self.bytes;
+        Image {
+            bytes,
+            width: self.end as u8,
+        }
     }
 }
 
-// The mark that stands behind a digit which `k` others follow: a point before any decimals, and commas between
-// thousands.
-fn mark_byte(marks: Marks, k: u8) -> Option<u8>
-    ensures { option_to_list result ≡ mark marks.commas marks.decimals k }
-{
-    let decimals = marks.decimals;
-    if k == decimals {
-        if decimals == 0 { None } else { Some(b'.') }
-    } else if marks.commas && k > decimals && (k - decimals) % 3 == 0 {
-        Some(b',')
-    } else {
-        None
+impl Marks {
+    // The mark that stands behind a digit which `k` others follow: a point before any decimals, and commas between
+    // thousands.
+    fn mark(self, k: u8) -> Option<u8>
+        ensures { option_to_list result ≡ mark self.commas self.decimals k }
+    {
+        let decimals = self.decimals;
+        if k == decimals {
+            (decimals > 0).then_some(b'.')
+        } else {
+            (self.commas && k > decimals && (k - decimals) % 3 == 0).then_some(b',')
+        }
     }
-}
-
-// Puts what stands behind the digits.
-fn put_sign(buffer: &mut [u8; IMAGE_COLUMNS], end: usize, sign: SignStyle, minus: bool) -> usize
-    requires first { sign_width sign ≤ end }
-    requires last { end ≤ image_columns }
-    ensures at { result ≡ end - sign_width sign }
-    ensures after { buffer.new ≡ before buffer.old end (sign_bytes sign minus) }
-{
-    match sign {
-        SignStyle::Omitted => end,
-        SignStyle::Minus => put(buffer, end, if minus { b'-' } else { b' ' }),
-    }
-}
-
-// Puts one byte.
-fn put(buffer: &mut [u8; IMAGE_COLUMNS], end: usize, b: u8) -> usize
-    requires first { 1 ≤ end }
-    requires last { end ≤ image_columns }
-    ensures at { result ≡ end - 1 }
-    ensures after { buffer.new ≡ before buffer.old end (b ∷ []) }
-{
-    buffer[end - 1] = b;
-    end - 1
 }
 
 // Blanks zeros and commas at the front; the last column stays.
 fn blank_front(columns: &mut [u8])
     ensures { columns.new ≡ blanked columns.old }
 {
-    let mut i = 0;
-    while i + 1 < columns.len() && fills(columns[i]) {
-        columns[i] = b' ';
-        i += 1;
+    if let Some((_last, front)) = columns.split_last() {
+        let blanks = fills(front);
+        columns[..blanks].fill(b' ');
     }
 }
 
-// A zero or a comma.
-fn fills(b: u8) -> bool
-    ensures { result ≡ (b == 48 || b == 44) }
+// How many zeros and commas stand at a front.
+fn fills(front: &[u8]) -> usize
+    ensures { result ≡ fills front.now }
 {
-    b == b'0' || b == b','
+    front
+        .iter()
+        .take_while(|b| **b == b'0' || **b == b',')
+        .count()
 }
 
 // The last column of an unedited number.

@@ -1,12 +1,15 @@
-use Rattle.std.proofs.Common.{sym, ◌∙◌, rules}
-use Rattle.images.proofs.Fronts.{front_more, front_stop, front_end}
+use Rattle.std.proofs.Common.{◌≡◌, ◌||◌, eqb, length, take, arith}
+use Rattle.std.proofs.lemmas.List.{length-take-le}
+use Rattle.std.proofs.lemmas.List.Sums.{prefix_len-le-length}
+use Rattle.images.proofs.Fronts.{front_blanked}
 use Rattle.images.proofs.writing.blank_front.Goals as goal
 
-pub loop-i-preserved : goal.loop-i-preserved
-loop-i-preserved c = (search rules, front_more c.loop-i.columns c.loop-i.i (search rules) (search rules) ∙ c.loop-i.invariant.1)
+pub slice_bounds-fill-end : goal.slice_bounds-fill-end
+slice_bounds-fill-end c = omega (arith, prefix_len-le-length (λ b. eqb b 48 || eqb b 44) c.in-Some.front.now, c.fills-blanks.ensures, c.in-Some.ensures.cases.1)
 
-pub returns-else-fills : goal.returns-else-fills
-returns-else-fills c = sym (front_stop c.loop-i.columns c.loop-i.i (search rules) (search rules)) ∙ c.loop-i.invariant.1
-
-pub returns-after-loop-i : goal.returns-after-loop-i
-returns-after-loop-i c = sym (front_end c.loop-i.columns c.loop-i.i (search rules)) ∙ c.loop-i.invariant.1
+pub returns-in-Some : goal.returns-in-Some
+returns-in-Some c =
+    let s = c.in-Some.ensures.cases in
+    let n : length (take c.fills-blanks.result c.args.columns.now) ≡ c.fills-blanks.result = length-take-le c.fills-blanks.result c.args.columns.now
+    (omega (arith, prefix_len-le-length (λ b. eqb b 48 || eqb b 44) c.in-Some.front.now, c.fills-blanks.ensures, s.1)) in
+    rw (c.fill.ensures.after (λ y e. e), n, c.fills-blanks.ensures, s.0) (front_blanked c.in-Some.front.now c.in-Some._last.now)
