@@ -65,7 +65,7 @@ of_sign Omitted m = refl
 of_sign Minus true = refl
 of_sign Minus false = refl
 
-pub of_blanks : (n : ℕ) → printable (replicate n 32) ≡ true
+of_blanks : (n : ℕ) → printable (replicate n 32) ≡ true
 of_blanks zero = refl
 of_blanks (suc n) = of_blanks n
 
@@ -73,14 +73,14 @@ of_punch : (m : Bool) (d : ℕ) → d < 10 → prints (overpunch m d) ≡ true
 of_punch false d h = grind (arith, nat_tests)
 of_punch true d h = grind (arith, nat_tests)
 
-pub of_shown : (e : EditStyle) (n d : ℕ) (z : ℤ) → printable (blanked (text e.commas d (digits n (nat_abs z))) ++ sign_bytes e.sign (negative z)) ≡ true
+of_shown : (e : EditStyle) (n d : ℕ) (z : ℤ) → printable (blanked (text e.commas d (digits n (nat_abs z))) ++ sign_bytes e.sign (negative z)) ≡ true
 of_shown e n d z =
     let ds = digits n (nat_abs z) in
     join (blanked (text e.commas d ds)) (sign_bytes e.sign (negative z))
     (of_blanked (text e.commas d ds) (join (mark false d (length ds)) (marked e.commas d 0 ds) (of_mark false d (length ds)) (of_marked e.commas d 0 ds (of_digits n (nat_abs z)))))
     (of_sign e.sign (negative z))
 
-of_edited : (e : EditStyle) (n d : ℕ) (z : ℤ) → printable (edited e n d z) ≡ true
+pub of_edited : (e : EditStyle) (n d : ℕ) (z : ℤ) → printable (edited e n d z) ≡ true
 of_edited e n d z = at (e.blank_zero && eqb (nat_abs z) 0)
   where
     at : (v : Bool) → printable (cond v (replicate (edited_width e n d) 32) (blanked (text e.commas d (digits n (nat_abs z))) ++ sign_bytes e.sign (negative z))) ≡ true

@@ -1,12 +1,10 @@
 // Making the image of an amount.
-ghost use Rattle.std.specs.Prelude.{◌≡◌, ◌≤◌, ◌&&◌, replicate, Some, None, ◌==◌, unsigned_abs};
-ghost use Rattle.images.specs.Limits.{image_columns};
+ghost use Rattle.std.specs.Prelude.{◌≡◌, Some, None};
 ghost use Rattle.images.specs.Images.{image_of, image_width};
 ghost use Rattle.images.specs.Lines.{image_bytes};
 
-use crate::edits::{EditCode, EditStyle};
-use crate::image::{IMAGE_COLUMNS, Image};
-use crate::width::edited_width;
+use crate::edits::EditCode;
+use crate::image::Image;
 use crate::writing::Draft;
 use numbers::Amount;
 
@@ -35,30 +33,6 @@ impl Image {
         ensures bytes { image_bytes result ≡ image_of (Some code) amount.picture.digits amount.picture.decimals amount.count }
         ensures width { result.width ≡ image_width (Some code) amount.picture.digits amount.picture.decimals }
     {
-        let style = code.style();
-        if is_blanked(amount, style) {
-            blank(edited_width(amount.picture, style))
-        } else {
-            Draft::edited(amount, style).image()
-        }
-    }
-}
-
-// Whether an amount is a zero that its style blanks.
-fn is_blanked(amount: Amount, style: EditStyle) -> bool
-    ensures { result ≡ (style.blank_zero && unsigned_abs amount.count == 0) }
-{
-    style.blank_zero && amount.size() == 0
-}
-
-// An image of blanks.
-fn blank(width: u8) -> Image
-    requires { width ≤ image_columns }
-    ensures bytes { image_bytes result ≡ replicate width 32 }
-    ensures width { result.width ≡ width }
-{
-    Image {
-        bytes: [b' '; IMAGE_COLUMNS],
-        width,
+        Draft::edited(amount, code.style()).image()
     }
 }

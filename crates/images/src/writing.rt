@@ -1,16 +1,16 @@
 // The draft of an image: its columns are put from the right to the left, since that is how digits come.
-ghost use Rattle.std.specs.Prelude.{◌≡◌, ◌+◌, ◌<◌, ◌≤◌, [], ◌∷◌, ◌++◌, true, length, unsigned_abs};
+ghost use Rattle.std.specs.Prelude.{◌≡◌, ◌+◌, ◌<◌, ◌≤◌, [], ◌∷◌, ◌++◌, true, length, replicate, unsigned_abs};
 ghost use Rattle.std.specs.Option.{option_to_list};
 ghost use Rattle.characters.specs.Printable.{printable};
 ghost use Rattle.numbers.specs.Signs.{negative};
 ghost use Rattle.images.specs.Limits.{image_columns};
-ghost use Rattle.images.specs.Images.{digits as digits_of, mark, text, blanked, sign_bytes, overpunch, unedited};
+ghost use Rattle.images.specs.Images.{digits as digits_of, mark, text, blanked, sign_bytes, overpunch, unedited, edited};
 ghost use Rattle.images.specs.Lines.{image_bytes};
 ghost use Rattle.images.specs.Drafts.{full, fronted, followed, fills};
 
 use crate::edits::{EditStyle, SignStyle};
 use crate::image::{IMAGE_COLUMNS, Image};
-use crate::width::text_width;
+use crate::width::{edited_width, text_width};
 use numbers::Amount;
 use std::marker::Model;
 
@@ -23,7 +23,7 @@ pub(crate) struct Draft {
 }
 
 impl Model for Draft {
-    ghost use Rattle.std.specs.Prelude.{◌≡◌, ◌≤◌, length, slice_range};
+    ghost use Rattle.std.specs.Prelude.{◌≤◌, slice_range};
     ghost use Rattle.images.specs.Limits.{image_columns};
     ghost use Rattle.images.specs.Drafts.{Drafted};
 
@@ -31,7 +31,7 @@ impl Model for Draft {
 
     ghost view = { λ d. record { room = d.at; written = slice_range d.bytes d.at d.end } };
 
-    ghost invariant = { λ d. (d.at ≤ d.end) × (d.end ≤ image_columns) × (length d.bytes ≡ image_columns) };
+    ghost invariant = { λ d. (d.at ≤ d.end) × (d.end ≤ image_columns) };
 }
 
 // What is put between digits.
@@ -57,8 +57,19 @@ impl Draft {
         draft
     }
 
-    // The digits with their marks and a blanked front, and the sign behind them.
+    // What an edit style asks for: blanks for a zero, or the digits with their marks.
     pub(crate) fn edited(amount: Amount, style: EditStyle) -> Draft
+        ensures { result ≡ full (edited style amount.picture.digits amount.picture.decimals amount.count) }
+    {
+        if style.blank_zero && amount.size() == 0 {
+            Draft::blank(edited_width(amount.picture, style))
+        } else {
+            Draft::shown(amount, style)
+        }
+    }
+
+    // The digits with their marks and a blanked front, and the sign behind them.
+    fn shown(amount: Amount, style: EditStyle) -> Draft
         ensures { result ≡ full (blanked (text style.commas amount.picture.decimals (digits_of amount.picture.digits (unsigned_abs amount.count))) ++ sign_bytes style.sign (negative amount.count)) }
     {
         let marks = Marks {
@@ -70,6 +81,18 @@ impl Draft {
         draft.blank_front();
         draft.push_sign(style.sign, amount.is_negative());
         draft
+    }
+
+    // Blanks, and no free column.
+    fn blank(width: u8) -> Draft
+        requires { width ≤ image_columns }
+        ensures { result ≡ full (replicate width 32) }
+    {
+        Draft {
+            bytes: [b' '; IMAGE_COLUMNS],
+            at: 0,
+            end: width as usize,
+        }
     }
 
     // A draft of so many free columns.

@@ -14,5 +14,5 @@ pub returns : goal.returns
 returns c =
     let d = c.self.inside in
     let i = c.self.invariant in
-    let p = columns_pushed d.bytes d.at d.end c.args.byte i.0 (omega (arith, i.0, i.1, i.2, rw (← c.self.view_is) at c.requires, length-between d.bytes d.at d.end (omega (arith, i.1, i.2)))) in
+    let p = columns_pushed d.bytes d.at d.end c.args.byte i.0 (omega (arith, i.0, i.1, c.self.told, rw (← c.self.view_is) at c.requires, length-between d.bytes d.at d.end (omega (arith, i.1, c.self.told)))) in
     rw (← c.self.view_is, p) refl

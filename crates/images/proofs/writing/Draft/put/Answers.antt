@@ -13,5 +13,5 @@ pub returns : goal.returns
 returns c =
     let d = c.self.inside in
     let i = c.self.invariant in
-    let p = columns_put d.bytes d.at d.end c.args.byte (rw (← c.self.view_is) at c.requires) i.0 (omega (arith, i.1, i.2)) in
+    let p = columns_put d.bytes d.at d.end c.args.byte (rw (← c.self.view_is) at c.requires) i.0 (omega (arith, i.1, c.self.told)) in
     rw (← c.self.view_is, p) refl

@@ -2,7 +2,7 @@ use Rattle.std.proofs.Common.{◌≡◌, ◌-◌, length, refl, append-nil, arit
 use Rattle.images.specs.Images.{text, digits}
 use Rattle.images.proofs.Fronts.{length-blanked}
 use Rattle.images.proofs.Widths.{length-text}
-use Rattle.images.proofs.writing.Draft.edited.Goals as goal
+use Rattle.images.proofs.writing.Draft.shown.Goals as goal
 
 pub put_digits-requires : goal.put_digits-requires
 put_digits-requires c =
