@@ -1,7 +1,8 @@
--- Images read back: one induction over the number of digits for each of the two readings.
-use Rattle.std.proofs.Common.{◌≡◌, ℕ, zero, suc, ◌+◌, ◌-◌, ◌*◌, ◌/◌, ◌%◌, ◌^◌, ◌<◌, ◌≤◌, Bool, true, false, cond, ◌&&◌, ◌||◌, eqb, ltb, List, [], ◌∷◌, ◌++◌, length, replicate, ℤ, pos, negsuc, neg_ℤ, nat_abs, Some, None, Ok, sym, refl, ap, ◌∙◌, append_assoc, append-nil, add-zero, pow-suc, add-one, arith, length-append}
+-- Edit codes and images read back: for images one induction over the number of digits for each of the two readings.
+use Rattle.std.proofs.Common.{◌≡◌, ℕ, zero, suc, ◌+◌, ◌-◌, ◌*◌, ◌/◌, ◌%◌, ◌^◌, ◌<◌, ◌≤◌, Bool, true, false, cond, ◌||◌, eqb, List, [], ◌∷◌, ◌++◌, length, replicate, ℤ, pos, negsuc, neg_ℤ, nat_abs, Some, None, Ok, sym, refl, ap, ◌∙◌, append_assoc, append-nil, add-zero, pow-suc, add-one, arith, length-append}
 use Rattle.std.proofs.lemmas.List.{take_at, get_or_at}
 use Rattle.std.proofs.lemmas.Bool.Decides.{nat_tests}
+use Rattle.images.specs.declared.edits.EditCode.TheVariants.{One, Two, Three, Four, J, K, L, M}
 use Rattle.images.specs.declared.edits.SignStyle.{SignStyle}
 use Rattle.images.specs.declared.edits.SignStyle.TheVariants.{Omitted, Minus}
 use Rattle.images.specs.declared.edits.EditStyle.{EditStyle}
@@ -9,10 +10,25 @@ use Rattle.numbers.specs.Signs.{negative, signed}
 use Rattle.numbers.specs.Reading.{within, read_on, read_field, read_last, count_of, last_of, punch}
 use Rattle.images.specs.Edits.{style_of, tells_sign}
 use Rattle.images.specs.Images.{digits, unedited, overpunch, mark, marked, text, blanked, sign_bytes, edited_width, edited}
-use Rattle.images.specs.Laws.{punched_minus, punched_digit, shown_from, shown, ReadsBack, ShowsBack, ImagesTell}
+use Rattle.images.specs.Laws.{punched_minus, punched_digit, shown_from, shown, CodesReadBack, ReadsBack, ShowsBack, ImagesTell}
+use Rattle.std.proofs.lemmas.Bool.{eqb-true}
+use Rattle.images.proofs.Cases.{mark_is, edited_is}
+
+pub codes_read_back : CodesReadBack
+codes_read_back One = refl
+codes_read_back Two = refl
+codes_read_back Three = refl
+codes_read_back Four = refl
+codes_read_back J = refl
+codes_read_back K = refl
+codes_read_back L = refl
+codes_read_back M = refl
 
 front : (m x : ℕ) → x < 10 ^ suc m → x / 10 < 10 ^ m
-front m x h = let k : x < 10 ^ m * 10 = rw (← (pow-suc 10 m)) h in omega arith
+front m x h = omega (arith, pow-suc 10 m)
+
+rest_fits : (n x : ℕ) → 1 ≤ n → x < 10 ^ n → x / 10 < 10 ^ (n - 1)
+rest_fits n x h k = let p : suc (n - 1) ≡ n = omega arith in front (n - 1) x (rw p k)
 
 count_digit : (d : ℕ) → d < 10 → count_of (48 + d) ≡ Some d
 count_digit d h = grind (arith, nat_tests)
@@ -47,9 +63,7 @@ read_snoc ds b i v m l e =
 pub reads_back : ReadsBack
 reads_back n i z h k =
     let x = nat_abs z in
-    let p : (n - 1) + 1 ≡ n = omega arith in
-    let w : x < 10 ^ suc (n - 1) = rw (← (add-one (n - 1)), p) k in
-    let d : read_on 0 i (digits (n - 1) (x / 10)) ≡ Ok (x / 10) = rw (append-nil (digits (n - 1) (x / 10))) at (read_digits (n - 1) (x / 10) i [] (front (n - 1) x w)) in
+    let d : read_on 0 i (digits (n - 1) (x / 10)) ≡ Ok (x / 10) = rw (append-nil (digits (n - 1) (x / 10))) at (read_digits (n - 1) (x / 10) i [] (rest_fits n x h k)) in
     let l : last_of (overpunch (negative z) (x % 10)) ≡ punch (negative z) (x % 10) = last_is (negative z) (x % 10) (omega arith) in
     let v : x / 10 * 10 + x % 10 ≡ x = omega arith in
     read_snoc (digits (n - 1) (x / 10)) (overpunch (negative z) (x % 10)) i (x / 10) (n - 1) (length_digits (n - 1) (x / 10)) d
@@ -70,13 +84,7 @@ shown-digits (suc m) x r h =
     ap (shown_from 0) s ∙ shown-digits m (x / 10) ((48 + x % 10) ∷ r) (front m x h) ∙ shown_digit (x / 10) (x % 10) r (omega arith) ∙ ap (λ y. shown_from y r) v
 
 shown-mark : (commas : Bool) (d k v : ℕ) (r : List ℕ) → shown_from v (mark commas d k ++ r) ≡ shown_from v r
-shown-mark commas d k v r = at (eqb k d) (eqb d 0) (commas && (ltb d k && eqb ((k - d) % 3) 0))
-  where
-    at : (a b c : Bool) → shown_from v (cond a (cond b [] (46 ∷ [])) (cond c (44 ∷ []) []) ++ r) ≡ shown_from v r
-    at true true c = refl
-    at true false c = refl
-    at false b true = refl
-    at false b false = refl
+shown-mark commas d k v r = mark_is (λ m. shown_from v (m ++ r) ≡ shown_from v r) commas d k refl refl refl
 
 -- what stands behind a column counts only by what it shows
 shown-behind : (v c : ℕ) (xs ys : List ℕ) → ((y : ℕ) → shown_from y xs ≡ shown_from y ys) → shown_from v (c ∷ xs) ≡ shown_from v (c ∷ ys)
@@ -132,12 +140,7 @@ shown-full e n d z m h =
     ∙ shown-signed e.sign z m
 
 shown-edited : (e : EditStyle) (n d : ℕ) (z : ℤ) → tells_sign e.sign ≡ true → nat_abs z < 10 ^ n → shown (edited e n d z) ≡ z
-shown-edited e n d z m h = at e.blank_zero (eqb (nat_abs z) 0) refl
-  where
-    at : (p q : Bool) → eqb (nat_abs z) 0 ≡ q → shown_from 0 (cond (p && q) (replicate (edited_width e n d) 32) (blanked (text e.commas d (digits n (nat_abs z))) ++ sign_bytes e.sign (negative z))) ≡ z
-    at true true k = shown_blanks (edited_width e n d) ∙ zero_is z (grind (arith, nat_tests))
-    at true false k = shown-full e n d z m h
-    at false q k = shown-full e n d z m h
+shown-edited e n d z m h = edited_is (λ cs. shown cs ≡ z) e n d z (λ k. shown_blanks (edited_width e n d) ∙ zero_is z (eqb-true (nat_abs z) 0 k)) (shown-full e n d z m h)
 
 -- the last column of an unedited image
 shown_last : (neg : Bool) (v d : ℕ) → d < 10 → shown_from v (overpunch neg d ∷ []) ≡ signed neg (v * 10 + d)
@@ -157,10 +160,8 @@ shown_last true v d h = at (eqb d 0) refl
 shown-unedited : (n : ℕ) (z : ℤ) → 1 ≤ n → nat_abs z < 10 ^ n → shown (unedited n z) ≡ z
 shown-unedited n z h k =
     let x = nat_abs z in
-    let p : (n - 1) + 1 ≡ n = omega arith in
-    let w : x < 10 ^ suc (n - 1) = rw (← (add-one (n - 1)), p) k in
     let v : x / 10 * 10 + x % 10 ≡ x = omega arith in
-    shown-digits (n - 1) (x / 10) (overpunch (negative z) (x % 10) ∷ []) (front (n - 1) x w)
+    shown-digits (n - 1) (x / 10) (overpunch (negative z) (x % 10) ∷ []) (rest_fits n x h k)
     ∙ shown_last (negative z) (x / 10) (x % 10) (omega arith) ∙ rw v (resigned z)
 
 pub shows_back : ShowsBack

@@ -1,5 +1,5 @@
 -- Images are characters, and laying keeps a line of characters so.
-use Rattle.std.proofs.Common.{◌≡◌, ℕ, zero, suc, ◌+◌, ◌-◌, ◌/◌, ◌%◌, ◌<◌, Bool, true, false, cond, ◌&&◌, ◌||◌, eqb, ltb, List, [], ◌∷◌, ◌++◌, length, take, drop, replicate, ℤ, nat_abs, Some, None, Option, refl, arith}
+use Rattle.std.proofs.Common.{◌≡◌, ℕ, zero, suc, ◌+◌, ◌-◌, ◌/◌, ◌%◌, ◌<◌, Bool, true, false, cond, ◌||◌, eqb, List, [], ◌∷◌, ◌++◌, length, take, drop, replicate, ℤ, nat_abs, Some, None, Option, refl, arith}
 use Rattle.std.proofs.lemmas.Bool.Decides.{nat_tests}
 use Rattle.characters.specs.Printable.{prints, printable}
 use Rattle.images.specs.declared.edits.EditCode.{EditCode}
@@ -10,6 +10,7 @@ use Rattle.numbers.specs.Signs.{negative}
 use Rattle.images.specs.Edits.{style_of}
 use Rattle.images.specs.Images.{digits, unedited, overpunch, mark, marked, text, blanked, sign_bytes, edited_width, edited, image_of}
 use Rattle.images.specs.Laws.{Printables}
+use Rattle.images.proofs.Cases.{mark_is, edited_is}
 
 head : (b : ℕ) (bs : List ℕ) → printable (b ∷ bs) ≡ true → prints b ≡ true
 head b bs h = grind (arith, nat_tests)
@@ -39,13 +40,7 @@ of_digits zero x = refl
 of_digits (suc n) x = join (digits n (x / 10)) ((48 + x % 10) ∷ []) (of_digits n (x / 10)) (cons (48 + x % 10) [] (grind (arith, nat_tests)) refl)
 
 of_mark : (commas : Bool) (d k : ℕ) → printable (mark commas d k) ≡ true
-of_mark commas d k = at (eqb k d) (eqb d 0) (commas && (ltb d k && eqb ((k - d) % 3) 0))
-  where
-    at : (a b c : Bool) → printable (cond a (cond b [] (46 ∷ [])) (cond c (44 ∷ []) [])) ≡ true
-    at true true c = refl
-    at true false c = refl
-    at false b true = refl
-    at false b false = refl
+of_mark commas d k = mark_is (λ m. printable m ≡ true) commas d k refl refl refl
 
 of_marked : (commas : Bool) (d j : ℕ) (cs : List ℕ) → printable cs ≡ true → printable (marked commas d j cs) ≡ true
 of_marked commas d j [] h = refl
@@ -81,11 +76,7 @@ of_shown e n d z =
     (of_sign e.sign (negative z))
 
 pub of_edited : (e : EditStyle) (n d : ℕ) (z : ℤ) → printable (edited e n d z) ≡ true
-of_edited e n d z = at (e.blank_zero && eqb (nat_abs z) 0)
-  where
-    at : (v : Bool) → printable (cond v (replicate (edited_width e n d) 32) (blanked (text e.commas d (digits n (nat_abs z))) ++ sign_bytes e.sign (negative z))) ≡ true
-    at true = of_blanks (edited_width e n d)
-    at false = of_shown e n d z
+of_edited e n d z = edited_is (λ cs. printable cs ≡ true) e n d z (λ _. of_blanks (edited_width e n d)) (of_shown e n d z)
 
 pub of_unedited : (n : ℕ) (z : ℤ) → printable (unedited n z) ≡ true
 of_unedited n z = join (digits (n - 1) (nat_abs z / 10)) (overpunch (negative z) (nat_abs z % 10) ∷ []) (of_digits (n - 1) (nat_abs z / 10))

@@ -1,3 +1,4 @@
+pub mod Cases
 pub mod Befores
 pub mod Fronts
 pub mod Backs

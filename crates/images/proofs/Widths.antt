@@ -1,5 +1,5 @@
 -- An image is as wide as its picture and code say.
-use Rattle.std.proofs.Common.{◌≡◌, ℕ, suc, ◌+◌, ◌-◌, ◌/◌, ◌%◌, ◌≤◌, Bool, true, false, cond, ◌&&◌, eqb, ltb, List, [], ◌∷◌, ◌++◌, length, replicate, ℤ, nat_abs, Some, None, sym, refl, ap, ◌∙◌, add-zero, arith, length-append}
+use Rattle.std.proofs.Common.{◌≡◌, ℕ, suc, ◌+◌, ◌-◌, ◌/◌, ◌%◌, ◌≤◌, Bool, true, false, cond, ◌&&◌, eqb, ltb, List, [], ◌∷◌, ◌++◌, length, ℤ, nat_abs, Some, None, sym, refl, ap, ◌∙◌, add-zero, arith, length-append}
 use Rattle.std.proofs.lemmas.List.{length-replicate}
 use Rattle.std.proofs.lemmas.Bool.Decides.{nat_tests}
 use Rattle.images.specs.declared.edits.SignStyle.{SignStyle}
@@ -11,6 +11,7 @@ use Rattle.images.specs.Images.{digits, unedited, mark, marked, text, text_width
 use Rattle.images.specs.Laws.{WidthStands}
 use Rattle.images.proofs.Backs.{length_digits}
 use Rattle.images.proofs.Fronts.{length-blanked}
+use Rattle.images.proofs.Cases.{edited_is}
 
 length-mark : (commas : Bool) (d k : ℕ) → length (mark commas d k) ≡ cond (eqb k d) (cond (eqb d 0) 0 1) (cond (commas && (ltb d k && eqb ((k - d) % 3) 0)) 1 0)
 length-mark commas d k = at (eqb k d) (eqb d 0) (commas && (ltb d k && eqb ((k - d) % 3) 0))
@@ -88,11 +89,7 @@ length-shown e n d z h =
     length-append (blanked (text e.commas d (digits n (nat_abs z)))) (sign_bytes e.sign (negative z)) ∙ rw (b, t, s) refl
 
 pub length-edited : (e : EditStyle) (n d : ℕ) (z : ℤ) → d ≤ n → length (edited e n d z) ≡ edited_width e n d
-length-edited e n d z h = at (e.blank_zero && eqb (nat_abs z) 0)
-  where
-    at : (b : Bool) → length (cond b (replicate (edited_width e n d) 32) (blanked (text e.commas d (digits n (nat_abs z))) ++ sign_bytes e.sign (negative z))) ≡ edited_width e n d
-    at true = length-replicate {A = ℕ} (edited_width e n d) 32
-    at false = length-shown e n d z h
+length-edited e n d z h = edited_is (λ cs. length cs ≡ edited_width e n d) e n d z (λ _. length-replicate {A = ℕ} (edited_width e n d) 32) (length-shown e n d z h)
 
 pub width_stands : WidthStands
 width_stands None n d z h k = length-unedited n z h

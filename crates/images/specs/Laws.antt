@@ -3,10 +3,14 @@
 use Rattle.std.specs.Prelude.{◌≡◌, ℕ, ◌+◌, ◌-◌, ◌*◌, ◌^◌, ◌<◌, ◌≤◌, Bool, true, cond, ◌||◌, ◌⊎◌, List, [], ◌∷◌, length, ℤ, pos, neg_ℤ, Some, None, Ok, Option, ◌==◌, unsigned_abs}
 use Rattle.characters.specs.Printable.{printable}
 use Rattle.images.specs.declared.edits.EditCode.{EditCode}
-use Rattle.images.specs.Edits.{style_of, tells_sign}
+use Rattle.images.specs.Edits.{byte_of, code_of, style_of, tells_sign}
 use Rattle.numbers.specs.Reading.{within, read_field}
 use Rattle.images.specs.Images.{unedited, image_of, image_width}
 use Rattle.images.specs.Lines.{before, columns}
+
+-- each edit code is the one that its character stands for
+abbrev pub CodesReadBack : Type 0
+CodesReadBack = (c : EditCode) → code_of (byte_of c) ≡ Some c
 
 -- an unedited image reads as its amount, for every number of digits
 abbrev pub ReadsBack : Type 0

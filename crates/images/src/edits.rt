@@ -36,8 +36,8 @@ pub struct EditStyle {
 }
 
 impl EditCode {
-    // The edit code that a character stands for. No TryFrom: why there is none is the same for every other byte, so its
-    // error would be a type that says nothing.
+    // The edit code that a character stands for. It stays an Option: any other byte is refused for one and the same
+    // reason, so the error of a TryFrom would say nothing.
     pub fn from_byte(byte: u8) -> Option<EditCode>
         ensures { result ≡ code_of byte }
     {

@@ -6,7 +6,8 @@ ghost use Rattle.images.specs.Limits.{image_columns};
 // The columns that are kept for an image.
 pub const IMAGE_COLUMNS: usize = 16;
 
-// The first `width` of the bytes are the image.
+// The first `width` of the bytes are the image. It is an array with a count beside it, since an image is Copy and takes
+// no memory.
 #[derive(Clone, Copy, Debug)]
 pub struct Image {
     pub(crate) bytes: [u8; IMAGE_COLUMNS],

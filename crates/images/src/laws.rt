@@ -1,10 +1,11 @@
 // The laws of images, each a promise of a public function: who calls it has the law for any proof.
-ghost use Rattle.images.specs.Laws.{ReadsBack, ShowsBack, ImagesTell, WidthStands, ColumnsHold, ColumnsStay, Printables};
+ghost use Rattle.images.specs.Laws.{CodesReadBack, ReadsBack, ShowsBack, ImagesTell, WidthStands, ColumnsHold, ColumnsStay, Printables};
 ghost use Rattle.images.specs.Worked.{Worked};
 
-// An amount written unedited reads back as itself, an image that tells the sign shows its amount, and so no two
-// amounts share one.
+// An edit code is the one that its character stands for. An amount written unedited reads back as itself, an image
+// that tells the sign shows its amount, and so no two amounts share one.
 pub fn images_read_back()
+    ensures codes { CodesReadBack }
     ensures unedited { ReadsBack }
     ensures shown { ShowsBack }
     ensures apart { ImagesTell }
