@@ -1,6 +1,6 @@
 -- What blanking a front does.
-use Rattle.std.proofs.Common.{◌≡◌, ℕ, suc, ◌+◌, Bool, true, false, cond, ◌||◌, eqb, List, [], ◌∷◌, ◌++◌, length, drop, replicate, refl, ap, arith}
-use Rattle.images.specs.Drafts.{fills}
+use Rattle.std.proofs.Common.{◌≡◌, ℕ, suc, Bool, true, false, cond, ◌||◌, eqb, List, [], ◌∷◌, ◌++◌, length, refl, ap}
+use Rattle.images.specs.Drafts.{fills_blanked}
 use Rattle.images.specs.Images.{blanked}
 
 pub length-blanked : (cs : List ℕ) → length (blanked cs) ≡ length cs
@@ -12,12 +12,13 @@ length-blanked (c ∷ b ∷ cs) = at (eqb c 48 || eqb c 44) (length-blanked (b �
     at true e = ap suc e
     at false e = refl
 
-fill : (p : Bool) (n b : ℕ) (r : List ℕ) → replicate n 32 ++ drop n r ≡ blanked r → replicate (cond p (1 + n) 0) 32 ++ drop (cond p (1 + n) 0) (b ∷ r) ≡ cond p (32 ∷ blanked r) (b ∷ r)
-fill true n b r h = let k : 1 + n ≡ suc n = omega arith in rw k (ap (λ t. 32 ∷ t) h)
-fill false n b r h = refl
+more : (p : Bool) (b : ℕ) (cs : List ℕ) (c : ℕ) → fills_blanked cs ++ c ∷ [] ≡ blanked (cs ++ c ∷ []) →
+    cond p (32 ∷ fills_blanked cs) (b ∷ cs) ++ c ∷ [] ≡ cond p (32 ∷ blanked (cs ++ c ∷ [])) (b ∷ (cs ++ c ∷ []))
+more true b cs c h = ap (λ t. 32 ∷ t) h
+more false b cs c h = refl
 
--- zeros and commas become as many blanks
-pub front_blanked : (cs : List ℕ) (c : ℕ) → replicate (fills cs) 32 ++ drop (fills cs) (cs ++ c ∷ []) ≡ blanked (cs ++ c ∷ [])
-front_blanked [] c = refl
-front_blanked (b ∷ []) c = fill (eqb b 48 || eqb b 44) 0 b (c ∷ []) refl
-front_blanked (b ∷ a ∷ cs) c = fill (eqb b 48 || eqb b 44) (fills (a ∷ cs)) b ((a ∷ cs) ++ c ∷ []) (front_blanked (a ∷ cs) c)
+-- behind a front the last column stays
+pub blanked_last : (cs : List ℕ) (c : ℕ) → fills_blanked cs ++ c ∷ [] ≡ blanked (cs ++ c ∷ [])
+blanked_last [] c = refl
+blanked_last (b ∷ []) c = more (eqb b 48 || eqb b 44) b [] c refl
+blanked_last (b ∷ a ∷ cs) c = more (eqb b 48 || eqb b 44) b (a ∷ cs) c (blanked_last (a ∷ cs) c)

@@ -1,6 +1,5 @@
 -- An image while it is written.
-use Rattle.std.specs.Prelude.{ℕ, ◌-◌, ◌||◌, List, ◌++◌, length, ◌==◌}
-use Rattle.std.specs.List.{prefix_len}
+use Rattle.std.specs.Prelude.{ℕ, ◌-◌, cond, ◌||◌, List, [], ◌∷◌, ◌++◌, length, ◌==◌}
 
 -- how many columns are still free in front, and the written ones behind them
 pub record Drafted : Type 0 where
@@ -19,6 +18,7 @@ fronted xs d = record { room = d.room - length xs; written = xs ++ d.written }
 abbrev pub followed : List ℕ → Drafted → Drafted
 followed xs d = record { room = d.room; written = d.written ++ xs }
 
--- how many zeros and commas stand at a front
-abbrev pub fills : List ℕ → ℕ
-fills cs = prefix_len (λ c. c == 48 || c == 44) cs
+-- zeros and commas before the first other column are blanked
+abbrev pub fills_blanked : List ℕ → List ℕ
+fills_blanked [] = []
+fills_blanked (c ∷ cs) = cond (c == 48 || c == 44) (32 ∷ fills_blanked cs) (c ∷ cs)

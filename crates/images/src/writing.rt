@@ -6,7 +6,7 @@ ghost use Rattle.numbers.specs.Signs.{negative};
 ghost use Rattle.images.specs.Limits.{image_columns};
 ghost use Rattle.images.specs.Images.{digits as digits_of, mark, text, blanked, sign_bytes, overpunch, unedited, edited};
 ghost use Rattle.images.specs.Lines.{image_bytes};
-ghost use Rattle.images.specs.Drafts.{full, fronted, followed, fills};
+ghost use Rattle.images.specs.Drafts.{full, fronted, followed, fills_blanked};
 
 use crate::edits::{EditStyle, SignStyle};
 use crate::image::{IMAGE_COLUMNS, Image};
@@ -205,20 +205,22 @@ impl Marks {
 fn blank_front(columns: &mut [u8])
     ensures { columns.new ≡ blanked columns.old }
 {
-    if let Some((_last, front)) = columns.split_last() {
-        let blanks = fills(front);
-        columns[..blanks].fill(b' ');
+    if let Some((_last, front)) = columns.split_last_mut() {
+        blank_fills(front);
     }
 }
 
-// How many zeros and commas stand at a front.
-fn fills(front: &[u8]) -> usize
-    ensures { result ≡ fills front.now }
+// Blanks zeros and commas up to the first other column. Not by `take_while(..).count()` and `fill`, which took a tenth
+// longer for an image: so few columns are not worth the call that they end in.
+fn blank_fills(columns: &mut [u8])
+    ensures { columns.new ≡ fills_blanked columns.old }
 {
-    front
-        .iter()
-        .take_while(|b| **b == b'0' || **b == b',')
-        .count()
+    for b in columns.iter_mut() {
+        if *b != b'0' && *b != b',' {
+            return;
+        }
+        *b = b' ';
+    }
 }
 
 // The last column of an unedited number.
