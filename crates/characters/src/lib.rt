@@ -4,30 +4,19 @@
 // nothing of cards, lines or fields.
 #![tactic(auto)]
 
-ghost use Rattle.std.specs.Prelude.{◌≡◌, ◌≤◌, ◌&&◌};
+ghost use Rattle.std.specs.Prelude.{◌≡◌};
 ghost use Rattle.characters.specs.Printable.{prints, first_unprintable};
 
 // Whether a byte is one of the 95 characters.
 pub fn is_printable(byte: u8) -> bool
     ensures { result ≡ prints byte }
 {
-    byte >= 32 && byte <= 126
+    (32..=126).contains(&byte)
 }
 
 // The place, counted from 0, of the first byte that is no character.
 pub fn first_unprintable(bytes: &[u8]) -> Option<usize>
     ensures { result ≡ first_unprintable bytes.now }
 {
-    place_of_other(bytes)
-}
-
-fn place_of_other(bytes: &[u8]) -> Option<usize>
-    ensures { result ≡ first_unprintable bytes.now }
-{
-    for (i, b) in bytes.iter().enumerate() {
-        if !is_printable(*b) {
-            return Some(i);
-        }
-    }
-    None
+    bytes.iter().position(|b| !is_printable(*b))
 }
