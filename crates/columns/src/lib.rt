@@ -5,4 +5,5 @@
 #![tactic(auto)]
 
 pub mod classes;
+pub mod filling;
 pub mod kinds;

@@ -17,13 +17,14 @@ pub enum LineFault {
 }
 
 impl Line {
+    #[tactic(auto, using(crate::proofs::Columns::found_within))]
     pub fn new(number: u16, spacing: u8, text: &[u8; 132]) -> Result<Line, LineFault>
         ensures { meant_by result ≡ line_from number spacing text.now }
     {
-        if number < 1 || number > 256 {
+        if !(1..=256).contains(&number) {
             return Err(LineFault::Number);
         }
-        if spacing < 1 || spacing > 3 {
+        if !(1..=3).contains(&spacing) {
             return Err(LineFault::Spacing);
         }
         match first_unprintable(&text[..]) {

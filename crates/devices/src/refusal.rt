@@ -1,5 +1,8 @@
 ghost use Rattle.std.specs.Prelude.{◌≡◌};
 ghost use Rattle.devices.specs.Refusals.{number_of};
+ghost use Rattle.devices.specs.declared.refusal.Refusal.TheVariants.{NoMemory};
+
+use std::alloc::AllocError;
 
 // Why a device was not made, or did not do what it was asked to.
 #[derive(Clone, Copy, PartialEq, Eq, Debug)]
@@ -25,5 +28,13 @@ impl Refusal {
             Refusal::NoLine => Some(26),
             Refusal::NoMemory => None,
         }
+    }
+}
+
+impl From<AllocError> for Refusal {
+    ghost from_gives = { λ _ e. e ≡ NoMemory };
+
+    fn from(_: AllocError) -> Refusal {
+        Self::NoMemory
     }
 }
