@@ -7,10 +7,5 @@ pub fn line_end() -> u8
     ensures value { result ≡ 10 }
     ensures reads { LinesRead }
 {
-    lines_are_read();
     b'\n'
 }
-
-fn lines_are_read()
-    ensures { LinesRead }
-{}

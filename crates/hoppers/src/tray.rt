@@ -1,7 +1,6 @@
-ghost use Rattle.std.specs.Prelude.{◌≡◌, ◌≤◌, ◌∷◌, length, drop};
-ghost use Rattle.hoppers.specs.Trays.{whole_cards, leftover, tray_cards, tray_ending, TrayMade};
+ghost use Rattle.std.specs.Prelude.{◌≡◌};
+ghost use Rattle.hoppers.specs.Trays.{tray_cards, tray_ending, TrayMade};
 
-use crate::texts::rest_of;
 use devices::{Card, Hopper};
 
 // The bytes behind the last whole card are fewer than a card has.
@@ -32,28 +31,15 @@ impl Hopper for Tray<'_> {
     ghost ending = { tray_ending };
 
     fn feed(&mut self) -> Result<Option<Card>, Leftover> {
-        let bytes = self.rest;
-        if bytes.len() >= 80 {
-            let card = first_card(bytes);
-            self.rest = rest_of(bytes, 80);
-            Ok(Some(card))
-        } else if bytes.len() == 0 {
-            Ok(None)
-        } else {
-            Err(Leftover {
-                length: bytes.len() as u8,
-            })
+        match self.rest.split_first_chunk::<80>() {
+            Some((columns, rest)) => {
+                self.rest = rest;
+                Ok(Some(Card { columns: *columns }))
+            }
+            None if self.rest.is_empty() => Ok(None),
+            None => Err(Leftover {
+                length: self.rest.len() as u8,
+            }),
         }
     }
-}
-
-// The first card of bytes that hold one whole.
-fn first_card(bytes: &[u8]) -> Card
-    requires { 80 ≤ length bytes.now }
-    ensures cards { whole_cards bytes.now ≡ result ∷ whole_cards (drop 80 bytes.now) }
-    ensures ending { leftover (drop 80 bytes.now) ≡ leftover bytes.now }
-{
-    let mut columns = [b' '; 80];
-    columns.copy_from_slice(&bytes[0..80]);
-    Card { columns }
 }

@@ -3,7 +3,8 @@ ghost use Rattle.hoppers.specs.LineHoppers.{line_hopper_cards, line_hopper_endin
 ghost use Rattle.hoppers.specs.TextLines.{filled};
 
 use super::{LineHopper, LongLine};
-use crate::texts::{first_line, put_front};
+use crate::texts::first_line;
+use columns::filling::blank_filled;
 use devices::{Card, Hopper};
 
 impl<'a> LineHopper<'a> {
@@ -25,20 +26,18 @@ impl Hopper for LineHopper<'_> {
     ghost ending = { line_hopper_ending };
 
     fn feed(&mut self) -> Result<Option<Card>, LongLine> {
-        match first_line(self.rest) {
-            None => Ok(None),
-            Some(first) => {
-                if first.line.len() > 80 {
-                    return Err(LongLine {
-                        line: self.line + 1,
-                        length: first.line.len(),
-                    });
-                }
-                self.rest = first.rest;
-                self.line += 1;
-                Ok(Some(card_of(first.line)))
-            }
+        let Some(first) = first_line(self.rest) else {
+            return Ok(None);
+        };
+        if first.line.len() > 80 {
+            return Err(LongLine {
+                line: self.line + 1,
+                length: first.line.len(),
+            });
         }
+        self.rest = first.rest;
+        self.line += 1;
+        Ok(Some(card_of(first.line)))
     }
 }
 
@@ -47,7 +46,7 @@ fn card_of(line: &[u8]) -> Card
     requires { length line.now ≤ 80 }
     ensures { result.columns ≡ filled line.now }
 {
-    let mut columns = [b' '; 80];
-    put_front(&mut columns, line);
-    Card { columns }
+    Card {
+        columns: blank_filled(line),
+    }
 }

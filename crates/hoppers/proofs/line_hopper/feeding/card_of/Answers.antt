@@ -1,5 +1,6 @@
-use Rattle.hoppers.proofs.Splits.{blank_behind}
+use Rattle.std.proofs.Common.{◌∙◌}
+use Rattle.columns.proofs.Fillings.{filled_behind}
 use Rattle.hoppers.proofs.line_hopper.feeding.card_of.Goals as goal
 
 pub returns : goal.returns
-returns c = blank_behind 80 c.args.line.now c.put_front.new.text c.put_front.ensures
+returns c = c.blank_filled.ensures ∙ filled_behind 80 c.args.line.now c.requires
