@@ -8,11 +8,5 @@ pub fn longest_line() -> usize
     ensures longest { Longest result }
     ensures reads { StripReads }
 {
-    strip_is_read();
     super::LONGEST
 }
-
-fn strip_is_read()
-    ensures longest { Longest 139 }
-    ensures reads { StripReads }
-{}

@@ -1,4 +1,4 @@
-ghost use Rattle.std.specs.Prelude.{◌≡◌, false, [], ◌==◌};
+ghost use Rattle.std.specs.Prelude.{◌≡◌, false, []};
 ghost use Rattle.devices.specs.Feeding.{rest_of};
 ghost use Rattle.devices.specs.Meant.{meant, meant_by};
 ghost use Rattle.devices.specs.Printing.{taken_with, given_to, oldest_of};
@@ -20,29 +20,19 @@ impl Strip {
         if size < LONGEST {
             return Err(Refusal::Small);
         }
-        match Vec::with_capacity(heap, size) {
-            Ok(held) => Ok(Strip {
-                held,
-                first: 0,
-                size,
-            }),
-            Err(_) => Err(Refusal::NoMemory),
-        }
+        let held = Vec::with_capacity(heap, size)?;
+        Ok(Strip {
+            held,
+            first: 0,
+            size,
+        })
     }
 
     // The lines held, as they are written.
     pub fn bytes(&self) -> &[u8]
         ensures { result.now ≡ strips (strip_lines self.now) }
     {
-        self.rest()
-    }
-
-    // The bytes that are not torn off.
-    fn rest(&self) -> &[u8]
-        ensures { result.now ≡ strip_rest self.now }
-    {
-        let all = self.held.as_slice();
-        &all[self.first..]
+        &self.held.as_slice()[self.first..]
     }
 
     fn oldest(&self) -> Option<Oldest>
@@ -51,20 +41,13 @@ impl Strip {
         oldest_line(self.bytes())
     }
 
-    // Whether the last line ends at a place.
-    fn is_end(&self, place: usize) -> bool
-        ensures { result ≡ (place == strip_used self.now) }
-    {
-        place == self.held.len()
-    }
-
     // Passes n bytes, which are torn off. Once none are left, the strip starts at its front again.
     fn pass(&mut self, n: usize)
         requires { Passes (strip_rest self.old) n }
         ensures { Passed self.old n self.new }
     {
         let place = self.first + n;
-        if self.is_end(place) {
+        if place == self.held.len() {
             self.held.clear();
             self.first = 0;
         } else {
@@ -103,12 +86,10 @@ impl Printer for Strip {
         ensures size { strip_size self.new ≡ strip_size self.old }
         ensures used { strip_used self.new ≡ used_after (strip_lines self.new) (strip_used self.old) }
     {
-        match self.oldest() {
-            None => Err(Refusal::NoLine),
-            Some(oldest) => {
-                self.pass(oldest.length);
-                Ok(oldest.line)
-            }
-        }
+        let Some(oldest) = self.oldest() else {
+            return Err(Refusal::NoLine);
+        };
+        self.pass(oldest.length);
+        Ok(oldest.line)
     }
 }

@@ -1,11 +1,13 @@
 // Reading the lines on a strip.
-ghost use Rattle.std.specs.Prelude.{◌≡◌, ◌≤◌, true, length, slice_index};
+ghost use Rattle.std.specs.Prelude.{◌≡◌, ◌≤◌, true, length};
 ghost use Rattle.devices.specs.Meant.{meant};
 ghost use Rattle.strip.specs.GoodLines.{good, all_good};
 ghost use Rattle.strip.specs.StripReading.{digit_count, digit_at, read_number, past_number, padded, read_line, lines_in};
 ghost use Rattle.strip.specs.StripSteps.{Next};
 ghost use Rattle.strip.specs.Strips.{strips};
 
+use columns::classes::{after, at};
+use columns::filling::blank_filled;
 use devices::Line;
 use hoppers::line_length;
 
@@ -16,26 +18,19 @@ pub(super) struct Oldest {
     pub(super) length: usize,
 }
 
-// A byte, or 0 past the end.
-fn byte_at(bytes: &[u8], i: usize) -> u8
-    ensures { result ≡ slice_index bytes.now i }
-{
-    if i < bytes.len() { bytes[i] } else { 0 }
-}
-
 fn digit_at(bytes: &[u8], i: usize) -> u8
     ensures { result ≡ digit_at bytes.now i }
 {
-    byte_at(bytes, i).saturating_sub(b'0')
+    at(bytes, i).saturating_sub(b'0')
 }
 
 // How many digits stand before the first comma.
 fn digit_count(bytes: &[u8]) -> usize
     ensures { result ≡ digit_count bytes.now }
 {
-    if byte_at(bytes, 1) == b',' {
+    if at(bytes, 1) == b',' {
         1
-    } else if byte_at(bytes, 2) == b',' {
+    } else if at(bytes, 2) == b',' {
         2
     } else {
         3
@@ -49,9 +44,9 @@ fn read_number(bytes: &[u8]) -> u16
     let a = digit_at(bytes, 0) as u16;
     let b = digit_at(bytes, 1) as u16;
     let c = digit_at(bytes, 2) as u16;
-    if byte_at(bytes, 1) == b',' {
+    if at(bytes, 1) == b',' {
         a
-    } else if byte_at(bytes, 2) == b',' {
+    } else if at(bytes, 2) == b',' {
         a * 10 + b
     } else {
         a * 100 + b * 10 + c
@@ -62,12 +57,7 @@ fn read_number(bytes: &[u8]) -> u16
 fn past_number(bytes: &[u8]) -> &[u8]
     ensures { result.now ≡ past_number bytes.now }
 {
-    let start = digit_count(bytes) + 1;
-    if start < bytes.len() {
-        &bytes[start..]
-    } else {
-        &bytes[bytes.len()..]
-    }
+    after(bytes, digit_count(bytes) + 1)
 }
 
 // Text with its trailing blanks again.
@@ -75,9 +65,7 @@ fn padded_text(bytes: &[u8]) -> [u8; 132]
     requires { length bytes.now ≤ 132 }
     ensures { result ≡ padded bytes.now }
 {
-    let mut text = [b' '; 132];
-    text[0..bytes.len()].copy_from_slice(bytes);
-    text
+    blank_filled(bytes)
 }
 
 fn read_line(bytes: &[u8]) -> Line
@@ -101,7 +89,7 @@ pub(super) fn oldest_line(bytes: &[u8]) -> Option<Oldest>
     requires written { strips (lines_in bytes.now) ≡ bytes.now }
     ensures { Next bytes.now result }
 {
-    if bytes.len() == 0 {
+    if bytes.is_empty() {
         return None;
     }
     let length = line_length(bytes);
