@@ -1,18 +1,19 @@
 -- Lines one after another on a strip.
-use Rattle.std.proofs.Common.{◌≡◌, ℕ, ◌+◌, ◌-◌, ◌≤◌, Bool, true, false, ◌&&◌, eqb, List, [], ◌∷◌, ◌++◌, map, length, take, drop, Some, None, vec_items, Option, sym, refl, ap, ◌∙◌, append_assoc, append-nil, arith}
+use Rattle.std.proofs.Common.{◌≡◌, ℕ, ◌+◌, ◌-◌, ◌≤◌, Bool, true, false, ◌&&◌, List, [], ◌∷◌, ◌++◌, map, length, take, drop, vec_items, sym, refl, ap, ◌∙◌, append_assoc, append-nil, arith}
 use Rattle.std.proofs.lemmas.Bool.Decides.{nat_tests}
-use Rattle.std.proofs.lemmas.List.{take_rest, drop-append-le, drop-drop, drop_all, drop_at, length-append, length-drop, length-take-le}
+use Rattle.std.proofs.lemmas.List.{drop-append-le, drop-drop, drop_at, length-append, length-drop, length-take-le}
+use Rattle.devices.specs.declared.line.Line.{Line}
+use Rattle.devices.specs.Meant.{meant}
 use Rattle.devices.specs.Printed.{Printed}
 use Rattle.strip.specs.GoodLines.{good, all_good}
 use Rattle.strip.specs.Strips.{body, rendered, strips}
 use Rattle.strip.specs.StripReading.{read_line, lines_in, anew_at, StripReads}
-use Rattle.strip.specs.StripMeaning.{strip_rest, strip_used, used_with, used_after}
-use Rattle.strip.specs.StripSteps.{Passes, Next, NextOn}
+use Rattle.strip.specs.StripMeaning.{strip_lines, used_after}
+use Rattle.strip.specs.StripSteps.{Passes}
 use Rattle.hoppers.specs.TextLines.{lines_of}
 use Rattle.strip.specs.declared.Strip.{Strip}
-use Rattle.strip.specs.declared.reading.Oldest.{Oldest}
 use Rattle.hoppers.proofs.Splits.{cut}
-use Rattle.strip.proofs.Bodies.{no_end-body, line_body}
+use Rattle.strip.proofs.Bodies.{good_from, no_end-body, line_body}
 
 rendered_join : (p : Printed) (bs : List ℕ) → rendered p ++ bs ≡ body p ++ 10 ∷ bs
 rendered_join p bs = append_assoc (body p) (10 ∷ []) bs
@@ -66,13 +67,17 @@ pub record Grown (items' : List ℕ) (f : ℕ) (was : List Printed) (p : Printed
   pub written : strips (lines_in (drop f items')) ≡ drop f items'
   pub lines : lines_in (drop f items') ≡ was ++ p ∷ []
 
-pub grown : (items items' : List ℕ) (f : ℕ) (p : Printed) → f ≤ length items → all_good (lines_in (drop f items)) ≡ true → strips (lines_in (drop f items)) ≡ drop f items → good p ≡ true →
-    items' ≡ items ++ rendered p → Grown items' f (lines_in (drop f items)) p
-grown items items' f p h g w k e =
-    let a = added (drop f items) p g w k in
-    let d : drop f items' ≡ drop f items ++ rendered p = ap (drop f) e ∙ drop-append-le f items (rendered p) h in
+pub grown : (s : Strip) (items' : List ℕ) (l : Line) → items' ≡ vec_items s.held ++ rendered (meant l) → Grown items' s.first (strip_lines s) (meant l)
+grown s items' l e =
+    let items = vec_items s.held in
+    let f = s.first in
+    let p = meant l in
+    let k = good_from p (record { first = l.first; last = l.last; near = l.near; far = l.far; wide = l.wide; shown = l.shown }) in
+    let a = added (drop f items) p s.good s.written k in
+    let d : drop f items' ≡ drop f items ++ rendered p = ap (drop f) e ∙ drop-append-le f items (rendered p) s.front in
     let n : length items' ≡ length items + length (rendered p) = ap length e ∙ length-append items (rendered p) in
     let r : length (rendered p) ≡ length (body p) + 1 = length-append (body p) (10 ∷ []) in
+    let h = s.front in
     record { front = omega arith; anew = grind (arith, nat_tests); good = rw d a.good; written = rw d a.written; lines = rw d a.lines }
 
 -- the first line of bytes that a strip wrote, where n bytes stand before a line end
@@ -95,9 +100,6 @@ torn bs n g w h e =
     let d : drop (n + 1) bs ≡ strips ps = sym (drop-drop 1 n bs) ∙ ap (λ x. drop 1 (drop n x)) s ∙ ap (drop 1) (drop_at (body p) (10 ∷ strips ps) n k) in
     record { reads = r; head_good = good_head p ps a; passes = record { within = omega arith; good = good_tail p ps a; written = sym d } }
 
-pub rest_all : (all items : List ℕ) (f : ℕ) → all ≡ items → take (length all - f) (drop f all) ≡ drop f items
-rest_all all items f e = take_rest all f ∙ ap (drop f) e
-
 -- what tearing off leaves
 pub record Shrunk (items : List ℕ) (f n : ℕ) : Type 0 where
   pub front : f + n ≤ length items
@@ -111,12 +113,6 @@ shrunk items f n h t =
     let k : length (drop f items) ≡ length items - f = length-drop f items in
     record { front = omega (arith, t.within); good = rw d at t.good; written = rw d at t.written; lines = ap lines_in (sym d) }
 
-pub emptied : (items : List ℕ) (f n : ℕ) → f + n ≡ length items → lines_in (drop n (drop f items)) ≡ []
-emptied items f n e = ap lines_in (drop-drop n f items ∙ drop_all (f + n) items (omega arith))
-
-pub anew_apart : (f n : ℕ) → (f ≡ n → ⊥) → anew_at f n ≡ true
-anew_apart f n h = grind (arith, nat_tests)
-
 -- bytes that are left are lines that are left
 pub some_left : (items : List ℕ) (f n : ℕ) → strips (lines_in (drop f items)) ≡ drop f items → f ≤ length items → (f ≡ length items → ⊥) → n ≡ used_after (lines_in (drop f items)) n
 some_left items f n w h k = at (lines_in (drop f items)) w (length-drop f items)
@@ -124,30 +120,3 @@ some_left items f n w h k = at (lines_in (drop f items)) w (length-drop f items)
     at : (ps : List Printed) → strips ps ≡ drop f items → length (drop f items) ≡ length items - f → n ≡ used_after ps n
     at [] e l = let z = ap length e in absurd (omega arith)
     at (p ∷ ps) e l = refl
-
--- a strip without lines has used none of its bytes
-pub none_used : (items : List ℕ) (f : ℕ) → f ≤ length items → anew_at f (length items) ≡ true → strips (lines_in (drop f items)) ≡ drop f items → lines_in (drop f items) ≡ [] → length items ≡ 0
-none_used items f h a w e =
-    let s : drop f items ≡ [] = sym w ∙ ap strips e in
-    let l : length items - f ≡ 0 = sym (length-drop f items) ∙ ap length s in
-    grind (arith, nat_tests)
-
--- the parts of a line, added one after another
-pub pieces : (i n m t z : List ℕ) → (((((i ++ n) ++ 44 ∷ []) ++ m) ++ 44 ∷ []) ++ t) ++ z ≡ i ++ ((n ++ 44 ∷ (m ++ 44 ∷ t)) ++ z)
-pieces i n m t z = simp append_assoc
-
--- the bytes used once a line is added
-pub used_more : (b : Bool) (items items' : List ℕ) (n n' : ℕ) (p : Printed) → b ≡ true → n ≡ length items → n' ≡ length items' → items' ≡ items ++ rendered p → n' ≡ used_with b n p
-used_more b items items' n n' p h e e' i =
-    rw h (e' ∙ ap length i ∙ length-append items (rendered p) ∙ ap (λ x. x + length (rendered p)) (sym e))
-
-pub next_on : (t : Strip) (r : Option Oldest) → Next (strip_rest t) r → NextOn t r
-next_on t None e = (e, t.held.ok.0 ∙ none_used (vec_items t.held) t.first t.front t.anew t.written e)
-next_on t (Some o) f = f
-
--- a place is the end of the bytes, or is not
-pub at_end : (t : Strip) (f : ℕ) → true ≡ eqb f (strip_used t) → f ≡ length (vec_items t.held)
-at_end t f h = let k : f ≡ t.held.len = grind (arith, nat_tests) in k ∙ t.held.ok.0
-
-pub not_end : (t : Strip) (f : ℕ) → false ≡ eqb f (strip_used t) → f ≡ length (vec_items t.held) → ⊥
-not_end t f h e = let k : f ≡ t.held.len = e ∙ sym t.held.ok.0 in grind (arith, nat_tests)

@@ -1,6 +1,8 @@
 -- Text without its trailing blanks.
-use Rattle.std.proofs.Common.{◌≡◌, ℕ, suc, ◌+◌, ◌-◌, ◌<◌, ◌≤◌, Bool, true, false, cond, eqb, List, [], ◌∷◌, ◌++◌, length, get_or, take, replicate, sym, refl, ap, ◌∙◌, arith}
-use Rattle.std.proofs.lemmas.List.{take_more}
+use Rattle.std.proofs.Common.{◌≡◌, ℕ, suc, ◌+◌, ◌-◌, ◌≤◌, Bool, true, false, cond, eqb, ◌==◌, List, [], ◌∷◌, ◌++◌, length, take, replicate, reverse, sym, refl, ap, ◌∙◌, arith}
+use Rattle.std.specs.List.{prefix_len}
+use Rattle.std.proofs.lemmas.List.{take_all, take-append-le, length-append, length-reverse, reverse-reverse}
+use Rattle.std.proofs.lemmas.Grind.{reverse_onto}
 use Rattle.std.proofs.lemmas.Bool.Decides.{nat_tests}
 use Rattle.strip.specs.Strips.{joined_to, trimmed}
 
@@ -16,16 +18,29 @@ trimmed_kept : (xs : List ℕ) (c : ℕ) → eqb c 32 ≡ false → trimmed (xs 
 trimmed_kept [] c e = rw e refl
 trimmed_kept (x ∷ xs) c e = ap (joined_to x) (trimmed_kept xs c e) ∙ joined_push x xs c
 
-front_of : (t : List ℕ) (n : ℕ) → 0 < n → n ≤ length t → take n t ≡ take (n - 1) t ++ get_or t (n - 1) 0 ∷ []
-front_of t n h k = let e : n - 1 + 1 ≡ n = omega arith in rw e at (take_more t (n - 1) 0 (omega arith))
+back_from : (ys : List ℕ) → trimmed (reverse ys) ≡ take (length ys - prefix_len (λ b. b == 32) ys) (reverse ys)
+back_from [] = refl
+back_from (y ∷ ys) = rw (reverse_onto ys y []) (at (eqb y 32) refl (back_from ys))
+  where
+    at : (v : Bool) → eqb y 32 ≡ v → trimmed (reverse ys) ≡ take (length ys - prefix_len (λ b. b == 32) ys) (reverse ys)
+        → trimmed (reverse ys ++ y ∷ []) ≡ take (suc (length ys) - cond v (1 + prefix_len (λ b. b == 32) ys) 0) (reverse ys ++ y ∷ [])
+    at true h e =
+        let k : y ≡ 32 = grind (arith, nat_tests) in
+        let r = length-reverse ys in
+        let n : suc (length ys) - (1 + prefix_len (λ b. b == 32) ys) ≡ length ys - prefix_len (λ b. b == 32) ys = omega arith in
+        rw (k, trimmed_blank, n, take-append-le (length ys - prefix_len (λ b. b == 32) ys) (reverse ys) (32 ∷ []) (omega arith)) e
+    at false h e =
+        let r = length-reverse ys in
+        let l = length-append (reverse ys) (y ∷ []) in
+        trimmed_kept (reverse ys) y h ∙ sym (take_all (suc (length ys) - 0) (reverse ys ++ y ∷ []) (omega arith))
 
-pub trim_more : (t : List ℕ) (n : ℕ) → 0 < n → n ≤ length t → get_or t (n - 1) 0 ≡ 32 → trimmed (take (n - 1) t) ≡ trimmed (take n t)
-trim_more t n h k e = sym (rw (front_of t n h k, e) (trimmed_blank (take (n - 1) t)))
-
-pub trim_stop : (t : List ℕ) (n : ℕ) → 0 < n → n ≤ length t → (get_or t (n - 1) 0 ≡ 32 → ⊥) → trimmed (take n t) ≡ take n t
-trim_stop t n h k e =
-    let f : eqb (get_or t (n - 1) 0) 32 ≡ false = grind (arith, nat_tests) in
-    rw (front_of t n h k) (trimmed_kept (take (n - 1) t) (get_or t (n - 1) 0) f)
+-- the blanks at the end are counted from the back
+pub trimmed_is : (bs : List ℕ) → trimmed bs ≡ take (length bs - prefix_len (λ b. b == 32) (reverse bs)) bs
+trimmed_is bs =
+    let e = back_from (reverse bs) in
+    let r = reverse-reverse bs in
+    let l = length-reverse bs in
+    rw (r, l) at e
 
 pad_joined : (b : ℕ) (ts bs : List ℕ) → ts ++ replicate (length bs - length ts) 32 ≡ bs → joined_to b ts ++ replicate (suc (length bs) - length (joined_to b ts)) 32 ≡ b ∷ bs
 pad_joined b [] bs e = at (eqb b 32) refl

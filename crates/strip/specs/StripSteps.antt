@@ -1,5 +1,6 @@
 -- What the strip's own functions hand to one another; no promise to a caller cites this.
-use Rattle.std.specs.Prelude.{◌≡◌, ℕ, ◌≤◌, true, List, [], ◌∷◌, length, drop, Some, None, Option}
+use Rattle.std.specs.Prelude.{◌≡◌, ℕ, ◌+◌, ◌≤◌, true, List, [], ◌∷◌, ◌++◌, length, drop, Some, None, Option, vec_items, vec_len, vec_capacity}
+use Rattle.std.specs.Global.{Vec}
 use Rattle.strip.specs.declared.Strip.{Strip}
 use Rattle.strip.specs.declared.reading.Oldest.{Oldest}
 use Rattle.devices.specs.Meant.{meant}
@@ -7,6 +8,12 @@ use Rattle.strip.specs.GoodLines.{all_good}
 use Rattle.strip.specs.Strips.{strips}
 use Rattle.strip.specs.StripMeaning.{strip_rest, strip_lines, strip_size, strip_used, used_after}
 use Rattle.strip.specs.StripReading.{lines_in}
+
+-- bytes are written behind others, and no room is lost
+pub record Adds (was : Vec ℕ) (bytes : List ℕ) (is : Vec ℕ) : Type 0 where
+  pub items : vec_items is ≡ vec_items was ++ bytes
+  pub len : vec_len is ≡ vec_len was + length bytes
+  pub capacity : vec_capacity was ≤ vec_capacity is
 
 -- the first n bytes are whole lines, and the others are as a strip keeps its bytes
 pub record Passes (bs : List ℕ) (n : ℕ) : Type 0 where

@@ -1,16 +1,15 @@
 // Writing a line on a strip.
-ghost use Rattle.std.specs.Prelude.{◌≡◌, ◌+◌, ◌<◌, ◌≤◌, ◌++◌, length, take, vec_len, vec_capacity};
+ghost use Rattle.std.specs.Prelude.{◌≡◌, ◌+◌, ◌<◌, ◌≤◌, length, vec_len, vec_capacity};
 ghost use Rattle.devices.specs.Meant.{meant};
 ghost use Rattle.strip.specs.Strips.{numeral, trimmed, rendered};
+ghost use Rattle.strip.specs.StripSteps.{Adds};
 
 use devices::Line;
 
 // Adds bytes for which there is room.
 fn add(held: &mut Vec<u8>, bytes: &[u8])
     requires { vec_len held.old + length bytes.now ≤ vec_capacity held.old }
-    ensures items { held.new.items ≡ held.old.items ++ bytes.now }
-    ensures len { vec_len held.new ≡ vec_len held.old + length bytes.now }
-    ensures capacity { vec_capacity held.old ≤ vec_capacity held.new }
+    ensures { Adds held.old bytes.now held.new }
 {
     let _ = held.extend_from_slice(bytes);
 }
@@ -19,9 +18,7 @@ fn add(held: &mut Vec<u8>, bytes: &[u8])
 fn add_number(held: &mut Vec<u8>, n: u16)
     requires small { n < 1000 }
     requires room { vec_len held.old + length (numeral n) ≤ vec_capacity held.old }
-    ensures items { held.new.items ≡ held.old.items ++ numeral n }
-    ensures len { vec_len held.new ≡ vec_len held.old + length (numeral n) }
-    ensures capacity { vec_capacity held.old ≤ vec_capacity held.new }
+    ensures { Adds held.old (numeral n) held.new }
 {
     let ones = b'0' + (n % 10) as u8;
     if n < 10 {
@@ -36,29 +33,24 @@ fn add_number(held: &mut Vec<u8>, n: u16)
     }
 }
 
-// The length of text without its trailing blanks.
-fn trimmed_length(text: &[u8]) -> usize
-    ensures within { result ≤ length text.now }
-    ensures taken { take result text.now ≡ trimmed text.now }
+// Text without its trailing blanks.
+fn trimmed(text: &[u8]) -> &[u8]
+    ensures short { length result.now ≤ length text.now }
+    ensures value { result.now ≡ trimmed text.now }
 {
-    let mut n = text.len();
-    while n > 0 && text[n - 1] == b' ' {
-        n -= 1;
-    }
-    n
+    let blanks = text.iter().rev().take_while(|b| **b == b' ').count();
+    &text[..text.len() - blanks]
 }
 
 // Adds a line, where there is room for the longest.
 pub(super) fn add_line(held: &mut Vec<u8>, line: &Line)
     requires { vec_len held.old + 139 ≤ vec_capacity held.old }
-    ensures items { held.new.items ≡ held.old.items ++ rendered (meant line.now) }
-    ensures capacity { vec_capacity held.old ≤ vec_capacity held.new }
+    ensures { Adds held.old (rendered (meant line.now)) held.new }
 {
     add_number(held, line.number);
     add(held, b",");
     add_number(held, line.spacing as u16);
     add(held, b",");
-    let text = &line.text[..];
-    add(held, &text[..trimmed_length(text)]);
+    add(held, trimmed(&line.text));
     add(held, b"\n");
 }
