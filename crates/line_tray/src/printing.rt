@@ -1,4 +1,4 @@
-ghost use Rattle.std.specs.Prelude.{◌≡◌, false, [], length};
+ghost use Rattle.std.specs.Prelude.{◌≡◌, false, []};
 ghost use Rattle.devices.specs.Feeding.{rest_of};
 ghost use Rattle.line_tray.specs.LineTrays.{tray_lines, tray_places, tray_room, LineTrayMade};
 ghost use Rattle.devices.specs.Meant.{meant, meant_by};
@@ -17,17 +17,8 @@ impl LineTray {
         if places == 0 {
             return Err(Refusal::Small);
         }
-        match VecDeque::with_capacity(heap, places) {
-            Ok(held) => Ok(LineTray { held, places }),
-            Err(_) => Err(Refusal::NoMemory),
-        }
-    }
-
-    // How many lines are held.
-    fn count(&self) -> usize
-        ensures { result ≡ length (tray_lines self.now) }
-    {
-        self.held.len()
+        let held = VecDeque::with_capacity(heap, places)?;
+        Ok(LineTray { held, places })
     }
 }
 
@@ -37,7 +28,7 @@ impl Printer for LineTray {
     ghost room = { tray_room };
 
     fn has_room(&self) -> bool {
-        self.count() < self.places
+        self.held.len() < self.places
     }
 
     fn print(&mut self, line: &Line) -> Result<(), Refusal>
@@ -60,9 +51,6 @@ impl Printer for LineTray {
         ensures same { tray_lines self.old ≡ [] → tray_room self.new ≡ tray_room self.old }
         ensures places { tray_places self.new ≡ tray_places self.old }
     {
-        match self.held.remove(0) {
-            Some(line) => Ok(line),
-            None => Err(Refusal::NoLine),
-        }
+        self.held.pop_front().ok_or(Refusal::NoLine)
     }
 }
