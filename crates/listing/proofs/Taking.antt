@@ -1,5 +1,5 @@
 -- The steps of taking the cards of a deck from a hopper.
-use Rattle.std.proofs.Common.{◌≡◌, ℕ, ◌<◌, true, false, List, [], ◌∷◌, ◌++◌, length, Some, None, Ok, Err, Option, sym, refl, ap, ◌∙◌, append_assoc, append-nil, arith}
+use Rattle.std.proofs.Common.{◌≡◌, ℕ, true, false, List, [], ◌∷◌, ◌++◌, Some, None, Ok, Option, sym, refl, ap, ◌∙◌, append_assoc, append-nil, arith}
 use Rattle.devices.specs.declared.card.Card.{Card}
 use Rattle.devices.specs.Feeding.{fed_of, rest_of}
 use Rattle.listing.specs.declared.deck_cards.DeckEnd.TheVariants.{Mark}
@@ -12,20 +12,9 @@ module _ {F : Type 0} where
   fed_first [] (Some f) c p = absurd (let z : ◌≡◌ {A = ℕ} 0 1 = cc in omega arith)
   fed_first (x ∷ xs) e c p = cc
 
-  -- without a card none was to come
-  pub none_left : (cs : List Card) (e : Option F) → Ok None ≡ fed_of cs e → (cs ≡ []) × (e ≡ None)
-  none_left [] None p = (refl, refl)
-  none_left [] (Some f) p = absurd (let z : ◌≡◌ {A = ℕ} 0 1 = cc in omega arith)
-  none_left (x ∷ xs) e p = absurd (let z : ◌≡◌ {A = ℕ} 0 1 = cc in omega arith)
-
-  pub fault_left : (cs : List Card) (e : Option F) (f : F) → Err f ≡ fed_of cs e → (cs ≡ []) × (e ≡ Some f)
-  fault_left [] None f p = absurd (let z : ◌≡◌ {A = ℕ} 0 1 = cc in omega arith)
-  fault_left [] (Some g) f p = (refl, cc)
-  fault_left (x ∷ xs) e f p = absurd (let z : ◌≡◌ {A = ℕ} 0 1 = cc in omega arith)
-
   -- at the mark all is taken; cs are the cards before it was fed, and cs' those after
   pub at_mark : (cs cs' : List Card) (e : Option F) (c : Card) → Ok (Some c) ≡ fed_of cs e → cs' ≡ rest_of cs → is_mark c ≡ true
-      → (deck_end cs e ≡ Mark) × (deck_bytes cs ≡ []) × (data_cards cs ≡ cs')
+      → (deck_end cs e ≡ Ok Mark) × (deck_bytes cs ≡ []) × (data_cards cs ≡ cs')
   at_mark cs cs' e c p q m =
       let f = fed_first cs e c p in (
         ap (λ (xs : List Card). deck_end xs e) f ∙ rw m refl,
@@ -42,9 +31,6 @@ module _ {F : Type 0} where
         ap deck_bytes f ∙ rw (m, q) refl,
         ap data_cards f ∙ rw (m, q) refl,
       )
-
-  pub fewer : (cs cs' : List Card) (e : Option F) (c : Card) → Ok (Some c) ≡ fed_of cs e → cs' ≡ rest_of cs → length cs' < length cs
-  fewer cs cs' e c p q = let f = ap length (fed_first cs e c p) in let r = ap length q in omega arith
 
 -- what stood there, the card's columns and the rest of the deck
 pub joined : (old new given deck rest columns : List ℕ) → new ≡ old ++ columns → deck ≡ columns ++ rest → old ++ deck ≡ given → new ++ rest ≡ given

@@ -1,8 +1,11 @@
 // Cards listed as they are: each becomes a line of its eighty columns.
-ghost use Rattle.std.specs.Prelude.{◌≡◌, ◌-◌, [], slice_index};
+ghost use Rattle.std.specs.Prelude.{◌≡◌, []};
 ghost use Rattle.devices.specs.Meant.{meant_by};
-ghost use Rattle.listing.specs.Listings.{listing_text, listing_line, bad_in, stop_of, ListsNext};
+ghost use Rattle.listing.specs.Listings.{listing_line, bad_in, stop_of, ListsNext};
+ghost use Rattle.listing.specs.declared.listing.ListError.TheVariants.{Column};
 
+use columns::classes::at;
+use columns::filling::blank_filled;
 use devices::{Card, Hopper, Line, LineFault, Printer};
 
 // A column, counted from 1, that holds no character, and the byte in it.
@@ -14,17 +17,30 @@ pub struct BadColumn {
 
 // What became of the next card.
 #[derive(PartialEq, Eq, Debug, Drop)]
-pub enum Listed<F> {
+pub enum Listed {
     // A card was fed, and stands on the last line.
     Line,
-    // A card was fed that cannot be printed.
-    Column(BadColumn),
     // The printer has no room, and nothing was fed.
     NoRoom,
     // There is no card left.
     End,
+}
+
+// Why the next card was not listed.
+#[derive(PartialEq, Eq, Debug, Drop)]
+pub enum ListError<F> {
+    // A card was fed that cannot be printed.
+    Column(BadColumn),
     // There is no card left that could be fed.
     Fault(F),
+}
+
+impl<F> From<BadColumn> for ListError<F> {
+    ghost from_gives = { λ bad e. e ≡ Column bad };
+
+    fn from(bad: BadColumn) -> ListError<F> {
+        ListError::Column(bad)
+    }
 }
 
 // Why a listing stopped, as it is told: a fixed number, how many cards were fed, and the column, or 0 where none is meant.
@@ -35,45 +51,41 @@ pub struct Stop {
     pub column: u8,
 }
 
-impl<F> Listed<F> {
-    // The stop that the answer is, if it is one, where `cards` were listed before. Their count stays at the largest number.
-    pub fn stop(&self, cards: u64) -> Option<Stop>
-        ensures { result ≡ stop_of self.now cards }
-    {
-        match self {
-            Listed::Line | Listed::NoRoom | Listed::End => None,
-            Listed::Column(bad) => Some(Stop {
-                number: 22,
-                cards: cards.saturating_add(1),
-                column: bad.column,
-            }),
-            Listed::Fault(_) => Some(Stop {
-                number: 23,
-                cards,
-                column: 0,
-            }),
-        }
+// The stop that an answer is, if it is one, where `cards` were listed before. Their count stays at the largest number.
+pub fn stop_of<F>(answer: &Result<Listed, ListError<F>>, cards: u64) -> Option<Stop>
+    ensures { result ≡ stop_of answer.now cards }
+{
+    match answer {
+        Ok(_) => None,
+        Err(ListError::Column(bad)) => Some(Stop {
+            number: 22,
+            cards: cards.saturating_add(1),
+            column: bad.column,
+        }),
+        Err(ListError::Fault(_)) => Some(Stop {
+            number: 23,
+            cards,
+            column: 0,
+        }),
     }
 }
 
 // Feeds a card and prints it, where there is room.
-pub fn list_next<H: Hopper, P: Printer>(hopper: &mut H, printer: &mut P) -> Listed<H::Fault>
+pub fn list_next<H: Hopper, P: Printer>(
+    hopper: &mut H,
+    printer: &mut P,
+) -> Result<Listed, ListError<H::Fault>>
     ensures { ListsNext result (P.Printer.room printer.old) (H.Hopper.cards hopper.old) (H.Hopper.ending hopper.old) (P.Printer.lines printer.old) (H.Hopper.cards hopper.new) (H.Hopper.ending hopper.new) (P.Printer.lines printer.new) }
 {
     if !printer.has_room() {
-        return Listed::NoRoom;
+        return Ok(Listed::NoRoom);
     }
-    match hopper.feed() {
-        Ok(Some(card)) => match line_of(&card) {
-            Ok(line) => {
-                let _ = printer.print(&line);
-                Listed::Line
-            }
-            Err(bad) => Listed::Column(bad),
-        },
-        Ok(None) => Listed::End,
-        Err(fault) => Listed::Fault(fault),
-    }
+    let Some(card) = hopper.feed().map_err(ListError::Fault)? else {
+        return Ok(Listed::End);
+    };
+    let line = line_of(&card)?;
+    let _ = printer.print(&line);
+    Ok(Listed::Line)
 }
 
 // Tears off every line that a printer holds.
@@ -87,11 +99,8 @@ pub fn tear_off_all<P: Printer>(printer: &mut P)
 fn line_of(card: &Card) -> Result<Line, BadColumn>
     ensures { meant_by result ≡ listing_line card.now }
 {
-    let text = text_of(card);
-    match Line::new(1, 1, &text) {
-        Ok(line) => Ok(line),
-        Err(fault) => Err(bad_column(fault, &text)),
-    }
+    let text = blank_filled(&card.columns);
+    Line::new(1, 1, &text).map_err(|fault| bad_column(fault, &text))
 }
 
 // The column that a line's fault tells; column 0 where it tells none.
@@ -101,25 +110,8 @@ fn bad_column(fault: LineFault, text: &[u8; 132]) -> BadColumn
     match fault {
         LineFault::Text { column } => BadColumn {
             column,
-            byte: byte_in(text, column),
+            byte: at(text, column.saturating_sub(1) as usize),
         },
         LineFault::Number | LineFault::Spacing => BadColumn { column: 0, byte: 0 },
     }
-}
-
-// The columns of a card, with blanks behind them.
-fn text_of(card: &Card) -> [u8; 132]
-    ensures { result ≡ listing_text card.now }
-{
-    let mut text = [b' '; 132];
-    text[0..80].copy_from_slice(&card.columns);
-    text
-}
-
-// The byte in a column, which counts from 1; 0 where there is no such column.
-fn byte_in(text: &[u8; 132], column: u8) -> u8
-    ensures { result ≡ slice_index text.now (column - 1) }
-{
-    let place = column.saturating_sub(1) as usize;
-    if place < 132 { text[place] } else { 0 }
 }
