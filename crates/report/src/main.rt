@@ -16,8 +16,8 @@ use deck::deck::Deck;
 use deck::kinds::{Breach, Numbers, ReadError};
 use devices::Printer;
 use hoppers::{LineHopper, LongLine};
-use listing::deck_cards::{DeckEnd, take_deck};
-use listing::listing::{Listed, Stop, list_next, tear_off_all};
+use listing::deck_cards::{DeckEnd, TakeError, take_deck};
+use listing::listing::{ListError, Listed, Stop, list_next, stop_of, tear_off_all};
 use rules::Refusal;
 use std::io;
 use std::io::{Read, Write};
@@ -49,32 +49,29 @@ fn answer(rt: &HostRuntime, text: &[u8], strip: &mut Strip) -> anyhow::Result<()
 }
 
 // Answers a deck by its cards and what ended them.
-fn answer_deck(rt: &HostRuntime, cards: &[u8], end: DeckEnd<LongLine>) -> anyhow::Result<()> {
+fn answer_deck(
+    rt: &HostRuntime,
+    cards: &[u8],
+    end: Result<DeckEnd, TakeError<LongLine>>,
+) -> anyhow::Result<()> {
     match end {
-        DeckEnd::Mark | DeckEnd::End => {
-            let mut deck = Deck::new(rt.alloc());
-            read_deck(rt, cards, &mut deck)
-        }
-        DeckEnd::Fault(long) => {
+        Ok(DeckEnd::Mark | DeckEnd::End) => read_deck(rt, cards, &mut Deck::new(rt.alloc())),
+        Err(TakeError::Fault(long)) => {
             refuse_line(rt, long)?;
             Err(anyhow!("the deck is refused"))
         }
-        DeckEnd::NoMemory => Err(anyhow!("there is no memory for the deck")),
+        Err(TakeError::NoMemory) => Err(anyhow!("there is no memory for the deck")),
     }
 }
 
 // Reads a deck, and prints a record of it or why it is refused.
 fn read_deck(rt: &HostRuntime, cards: &[u8], deck: &mut Deck) -> anyhow::Result<()> {
-    match deck.read(rt.alloc(), cards) {
-        Ok(()) => {
-            record::show(rt, deck)?;
-            Ok(())
-        }
-        Err(error) => {
-            refuse(rt, cards, error)?;
-            Err(anyhow!("the deck is refused"))
-        }
+    if let Err(error) = deck.read(rt.alloc(), cards) {
+        refuse(rt, cards, error)?;
+        return Err(anyhow!("the deck is refused"));
     }
+    record::show(rt, deck)?;
+    Ok(())
 }
 
 fn refuse(rt: &HostRuntime, cards: &[u8], error: ReadError) -> io::Result<()> {
@@ -88,10 +85,17 @@ fn refuse(rt: &HostRuntime, cards: &[u8], error: ReadError) -> io::Result<()> {
 }
 
 fn print_refusal(rt: &HostRuntime, told: Option<Numbers>) -> io::Result<()> {
-    match told {
-        Some(told) => print_numbers(rt, "deck", told.number, told.card, told.column),
-        None => Ok(()),
-    }
+    let Some(
+        Numbers {
+            number,
+            card,
+            column,
+        },
+    ) = told
+    else {
+        return Ok(());
+    };
+    println!(rt; "deck,{number},{card},{column}")
 }
 
 // A line that is longer than a card makes no deck of whole cards.
@@ -105,25 +109,14 @@ fn refuse_line(rt: &HostRuntime, long: LongLine) -> io::Result<()> {
     telling::tell_line(rt, " of the deck", long)
 }
 
-// Prints a refusal or a stop: its number, a card or a count of cards, and a column.
-fn print_numbers(
-    rt: &HostRuntime,
-    word: &str,
-    number: u8,
-    card: usize,
-    column: u8,
-) -> io::Result<()> {
-    println!(rt; "{word},{number},{card},{column}")
-}
-
 // Lists the cards that are to come.
 fn list(rt: &HostRuntime, hopper: &mut LineHopper<'_>, strip: &mut Strip) -> anyhow::Result<()> {
     let mut cards = 0u64;
     'cards: loop {
         match list_next(hopper, strip) {
-            Listed::Line => cards = cards.saturating_add(1),
-            Listed::NoRoom => {
-                if strip.bytes().len() == 0 {
+            Ok(Listed::Line) => cards = cards.saturating_add(1),
+            Ok(Listed::NoRoom) => {
+                if strip.bytes().is_empty() {
                     return Err(anyhow!("the strip has no room for a line"));
                 }
                 write_out(rt, strip)?;
@@ -147,28 +140,32 @@ fn finish(
     rt: &HostRuntime,
     strip: &mut Strip,
     cards: u64,
-    last: Listed<LongLine>,
+    last: Result<Listed, ListError<LongLine>>,
 ) -> anyhow::Result<()> {
     write_out(rt, strip)?;
-    match last.stop(cards) {
-        None => {
-            println!(rt; "end,{cards}")?;
-            Ok(())
-        }
-        Some(stop) => {
-            tell_stop(rt, stop, last)?;
-            Err(anyhow!("the listing stopped"))
-        }
-    }
+    let Some(stop) = stop_of(&last, cards) else {
+        println!(rt; "end,{cards}")?;
+        return Ok(());
+    };
+    tell_stop(rt, stop, last)?;
+    Err(anyhow!("the listing stopped"))
 }
 
 // Prints a stop, and says in words why the listing stopped.
-fn tell_stop(rt: &HostRuntime, stop: Stop, last: Listed<LongLine>) -> io::Result<()> {
-    let cards = stop.cards as usize;
-    print_numbers(rt, "stop", stop.number, cards, stop.column)?;
+fn tell_stop(
+    rt: &HostRuntime,
+    stop: Stop,
+    last: Result<Listed, ListError<LongLine>>,
+) -> io::Result<()> {
+    let Stop {
+        number,
+        cards,
+        column,
+    } = stop;
+    println!(rt; "stop,{number},{cards},{column}")?;
     match last {
-        Listed::Column(bad) => telling::tell_byte(rt, cards, bad),
-        Listed::Fault(long) => telling::tell_line(rt, "", long),
-        Listed::Line | Listed::NoRoom | Listed::End => Ok(()),
+        Err(ListError::Column(bad)) => telling::tell_byte(rt, cards as usize, bad),
+        Err(ListError::Fault(long)) => telling::tell_line(rt, "", long),
+        Ok(_) => Ok(()),
     }
 }
