@@ -58,3 +58,16 @@ takes_of Comp = takes true true false false true false
 takes_of Move = takes false true true false false false
 takes_of SetOn = takes false false false false true true
 takes_of SetOf = takes false false false false true true
+
+-- the word that an operation is punched by, before the blanks that fill its columns
+abbrev pub word_of : Operation → List ℕ
+word_of Add = codes "ADD"
+word_of Sub = codes "SUB"
+word_of Mult = codes "MULT"
+word_of Div = codes "DIV"
+word_of ZAdd = codes "Z-ADD"
+word_of ZSub = codes "Z-SUB"
+word_of Comp = codes "COMP"
+word_of Move = codes "MOVE"
+word_of SetOn = codes "SETON"
+word_of SetOf = codes "SETOF"

@@ -1,8 +1,10 @@
 // The operations of calculation cards: how each is punched, and which entries of its card it takes.
 #![tactic(auto)]
 
-ghost use Rattle.std.specs.Prelude.{◌≡◌};
-ghost use Rattle.operations.specs.Operations.{arithmetic_of, zeroing_of, other_of, operation_of, takes_of};
+ghost use Rattle.std.specs.Prelude.{◌≡◌, Some};
+ghost use Rattle.operations.specs.Operations.{operation_of, takes_of, word_of};
+
+use std::fmt;
 
 #[derive(Clone, Copy, PartialEq, Eq, Debug)]
 pub enum Operation {
@@ -34,40 +36,13 @@ pub struct Takes {
 pub fn read_operation(columns: &[u8]) -> Option<Operation>
     ensures { result ≡ operation_of columns.now }
 {
-    read_arithmetic(columns)
-        .or(read_zeroing(columns))
-        .or(read_other(columns))
-}
-
-// Arithmetic on two factors.
-fn read_arithmetic(columns: &[u8]) -> Option<Operation>
-    ensures { result ≡ arithmetic_of columns.now }
-{
     match columns {
         b"ADD  " => Some(Operation::Add),
         b"SUB  " => Some(Operation::Sub),
         b"MULT " => Some(Operation::Mult),
         b"DIV  " => Some(Operation::Div),
-        _ => None,
-    }
-}
-
-// Arithmetic with 0 for the first factor.
-fn read_zeroing(columns: &[u8]) -> Option<Operation>
-    ensures { result ≡ zeroing_of columns.now }
-{
-    match columns {
         b"Z-ADD" => Some(Operation::ZAdd),
         b"Z-SUB" => Some(Operation::ZSub),
-        _ => None,
-    }
-}
-
-// What does no arithmetic.
-fn read_other(columns: &[u8]) -> Option<Operation>
-    ensures { result ≡ other_of columns.now }
-{
-    match columns {
         b"COMP " => Some(Operation::Comp),
         b"MOVE " => Some(Operation::Move),
         b"SETON" => Some(Operation::SetOn),
@@ -134,5 +109,25 @@ impl Operation {
             Operation::Move => MOVING,
             Operation::SetOn | Operation::SetOf => SETTING,
         }
+    }
+}
+
+// The word that the operation is punched by.
+impl fmt::Display for Operation {
+    ghost output = { λ o. Some (word_of o) };
+
+    fn fmt<W: fmt::Write>(&self, f: &mut fmt::Formatter<W>) -> fmt::Result {
+        f.write_str(match self {
+            Operation::Add => "ADD",
+            Operation::Sub => "SUB",
+            Operation::Mult => "MULT",
+            Operation::Div => "DIV",
+            Operation::ZAdd => "Z-ADD",
+            Operation::ZSub => "Z-SUB",
+            Operation::Comp => "COMP",
+            Operation::Move => "MOVE",
+            Operation::SetOn => "SETON",
+            Operation::SetOf => "SETOF",
+        })
     }
 }
