@@ -9,14 +9,14 @@ use devices::Card;
 pub fn at(s: &[u8], i: usize) -> u8
     ensures { result ≡ slice_index s.now i }
 {
-    if i < s.len() { s[i] } else { 0 }
+    s.get(i).copied().unwrap_or(0)
 }
 
 // What follows the first n bytes.
 pub fn after(s: &[u8], n: usize) -> &[u8]
     ensures { result.now ≡ drop n s.now }
 {
-    if n <= s.len() { s.split_at(n).1 } else { &[] }
+    s.get(n..).unwrap_or(&[])
 }
 
 // The first n bytes.
@@ -24,7 +24,7 @@ pub fn front(s: &[u8], n: usize) -> &[u8]
     ensures value { result.now ≡ take n s.now }
     ensures len { length result.now ≤ n }
 {
-    if n <= s.len() { s.split_at(n).0 } else { s }
+    s.get(..n).unwrap_or(s)
 }
 
 // The columns of an entry, counted from 1 as on the card.
@@ -46,9 +46,9 @@ impl Class {
     {
         match self {
             Class::Blank => b == b' ',
-            Class::Digit => b >= b'0' && b <= b'9',
-            Class::Letter => b >= b'A' && b <= b'Z',
-            Class::LetterOrDigit => (b >= b'A' && b <= b'Z') || (b >= b'0' && b <= b'9'),
+            Class::Digit => b.is_ascii_digit(),
+            Class::Letter => b.is_ascii_uppercase(),
+            Class::LetterOrDigit => b.is_ascii_uppercase() || b.is_ascii_digit(),
             Class::Quotable => is_printable(b) && b != b'\'',
             Class::Printable => is_printable(b),
         }
@@ -59,20 +59,7 @@ impl Class {
         ensures value { result ≡ run self s.now }
         ensures within { result ≤ length s.now }
     {
-        self.first_other(s)
-    }
-
-    // The place of the first byte of another class, or where the bytes end.
-    fn first_other(self, s: &[u8]) -> usize
-        ensures value { result ≡ run self s.now }
-        ensures within { result ≤ length s.now }
-    {
-        for (i, b) in s.iter().enumerate() {
-            if !self.has(*b) {
-                return i;
-            }
-        }
-        s.len()
+        s.iter().position(|b| !self.has(*b)).unwrap_or(s.len())
     }
 
     // What follows them.
