@@ -14,7 +14,7 @@ pub fn indicator(s: &[u8]) -> Option<Indicator>
         (b'L', b @ b'0'..=b'9') => Some(100 + (b - b'0')),
         (a @ b'0'..=b'9', b @ b'0'..=b'9') => {
             let n = 10 * (a - b'0') + (b - b'0');
-            if n >= 1 { Some(n) } else { None }
+            (n >= 1).then_some(n)
         }
         _ => None,
     }
@@ -24,10 +24,7 @@ pub fn indicator(s: &[u8]) -> Option<Indicator>
 pub fn is_among(low: Indicator, high: Indicator, i: Option<Indicator>) -> bool
     ensures { result ≡ among low high i }
 {
-    match i {
-        Some(n) => low <= n && n <= high,
-        None => false,
-    }
+    i.is_some_and(|n| (low..=high).contains(&n))
 }
 
 // Blank, or an indicator between two others.
@@ -41,18 +38,15 @@ pub fn is_blank_or(low: Indicator, high: Indicator, s: &[u8]) -> bool
 pub fn is_condition(s: &[u8]) -> bool
     ensures { result ≡ is_condition s.now }
 {
-    is_blank(s) || ((at(s, 0) == b' ' || at(s, 0) == b'N') && indicator(after(s, 1)).is_some())
+    is_blank(s) || (matches!(at(s, 0), b' ' | b'N') && indicator(after(s, 1)).is_some())
 }
 
 // The condition that three columns name, if they name one.
 pub fn condition(s: &[u8]) -> Option<Condition>
     ensures { result ≡ condition_of s.now }
 {
-    match indicator(after(s, 1)) {
-        Some(indicator) => Some(Condition {
-            negated: at(s, 0) == b'N',
-            indicator,
-        }),
-        None => None,
-    }
+    indicator(after(s, 1)).map(|indicator| Condition {
+        negated: at(s, 0) == b'N',
+        indicator,
+    })
 }

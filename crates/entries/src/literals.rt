@@ -1,27 +1,17 @@
 ghost use Rattle.std.specs.Prelude.{◌≡◌, ℕ, ◌+◌, ◌-◌, ◌^◌, ◌<◌, ◌≤◌, true, length};
 ghost use Rattle.std.specs.Option.{option_map};
-ghost use Rattle.entries.specs.Literals.{closed_by, quoted_in, text_of, is_text, is_minus, unsigned, fraction, is_numeric, literal_of, numeric_of, signed};
+ghost use Rattle.entries.specs.Literals.{quoted_in, text_of, is_text, is_minus, unsigned, fraction, is_numeric, literal_of, numeric_of, signed};
 
 use crate::plain::count;
 use columns::classes::{after, at, front, is_blank};
 use columns::kinds::{Class, Literal};
-
-// The bytes before a last apostrophe.
-fn closed(rest: &[u8]) -> Option<&[u8]>
-    ensures { option_map (λ x. x.now) result ≡ closed_by rest.now }
-{
-    match rest {
-        [inside @ .., b'\''] => Some(inside),
-        _ => None,
-    }
-}
 
 // The bytes between a first and a last apostrophe.
 fn quoted(s: &[u8]) -> Option<&[u8]>
     ensures { option_map (λ x. x.now) result ≡ quoted_in s.now }
 {
     match s {
-        [b'\'', rest @ ..] => closed(rest),
+        [b'\'', inside @ .., b'\''] => Some(inside),
         _ => None,
     }
 }
@@ -42,10 +32,7 @@ pub fn text(s: &[u8]) -> Option<&[u8]>
 pub fn is_text(s: &[u8]) -> bool
     ensures { result ≡ is_text s.now }
 {
-    match text(s) {
-        Some(inside) => inside.len() >= 1,
-        None => false,
-    }
+    text(s).is_some_and(|inside| !inside.is_empty())
 }
 
 fn is_minus(s: &[u8]) -> bool
@@ -82,7 +69,7 @@ pub fn is_numeric(s: &[u8]) -> bool
     let digits = Class::Digit
         .run(whole)
         .saturating_add(Class::Digit.run(part));
-    digits >= 1 && digits <= 9 && is_blank(Class::Digit.past(part))
+    (1..=9).contains(&digits) && is_blank(Class::Digit.past(part))
 }
 
 fn with_sign(minus: bool, size: u64) -> i64
@@ -114,9 +101,5 @@ fn literal(s: &[u8]) -> Literal
 pub fn numeric(s: &[u8]) -> Option<Literal>
     ensures { result ≡ numeric_of s.now }
 {
-    if is_numeric(s) {
-        Some(literal(s))
-    } else {
-        None
-    }
+    is_numeric(s).then(|| literal(s))
 }
