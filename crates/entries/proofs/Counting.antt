@@ -1,14 +1,11 @@
 -- The steps of counting digits.
 use Rattle.std.proofs.Common.{◌≡◌, ℕ, ◌+◌, ◌*◌, ◌^◌, ◌<◌, ◌≤◌, List, length, get_or, drop, refl, mul_assoc, mul-le-mul, pow-suc, add-one, arith}
 use native.Mathlib.Nat.{pow-le-pow_right}
-use Rattle.std.proofs.lemmas.List.{at_drop_more, at_drop_all}
+use Rattle.std.proofs.lemmas.List.{at_drop_more}
 use Rattle.entries.specs.Entries.{count_from, digit_of}
 
 pub count_more : (s : List ℕ) (i v : ℕ) → i < length s → count_from v (drop i s) ≡ count_from (v * 10 + digit_of (get_or s i 0)) (drop (i + 1) s)
 count_more s i v h = at_drop_more (count_from v) s i 0 h
-
-pub count_end : (s : List ℕ) (i v : ℕ) → length s ≤ i → count_from v (drop i s) ≡ v
-count_end s i v h = at_drop_all (count_from v) s i h
 
 -- i digits behind v stay below (v + 1) * 10 ^ i
 pub small_more : (v sum i d : ℕ) → sum < (v + 1) * 10 ^ i → d ≤ 9 → sum * 10 + d < (v + 1) * 10 ^ (i + 1)

@@ -72,6 +72,7 @@ pub fn is_numeric(s: &[u8]) -> bool
     (1..=9).contains(&digits) && is_blank(Class::Digit.past(part))
 }
 
+// `numbers` has the like for amounts: no reading of columns rests on that crate.
 fn with_sign(minus: bool, size: u64) -> i64
     requires { size < 10 ^ 18 }
     ensures { result ≡ signed minus size }

@@ -25,7 +25,10 @@ fn digit(b: u8) -> u8
     ensures value { result ≡ digit_of b }
     ensures small { result ≤ 9 }
 {
-    if Class::Digit.has(b) { b - b'0' } else { 0 }
+    match b {
+        b'0'..=b'9' => b - b'0',
+        _ => 0,
+    }
 }
 
 // What up to nine columns count, going on from v.
@@ -35,9 +38,10 @@ pub(crate) fn count(v: u64, s: &[u8]) -> u64
     ensures value { result ≡ count_from v s.now }
     ensures small { result < (v + 1) * 10 ^ length s.now }
 {
+    // Tried as a fold: that each sum fits did not close there.
     let mut sum = v;
     for b in s {
-        sum = sum * 10 + digit(*b) as u64;
+        sum = sum * 10 + u64::from(digit(*b));
     }
     sum
 }
