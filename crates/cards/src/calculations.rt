@@ -1,13 +1,15 @@
 // The entries of calculation cards. Which of them have to be filled goes by the operation; where the operation
 // is unknown, that alone is told.
-ghost use Rattle.std.specs.Prelude.{◌≡◌, ◌≤◌, ◌||◌};
-ghost use Rattle.cards.specs.Punches.{is_filled, is_asked, is_allowed, is_optional_name, is_factor1, is_factor2, is_result, is_size, is_length, is_result_decimals, is_half_adjust, is_told, names_one};
+ghost use Rattle.std.specs.Prelude.{◌≡◌, ◌≤◌, Bool, true, ◌||◌, MatchOption};
+ghost use Rattle.columns.specs.Classes.{is_blank};
+ghost use Rattle.operations.specs.Operations.{takes_of};
+ghost use Rattle.cards.specs.Punches.{is_filled, is_optional_name, is_factor1, is_factor2, is_result, is_size, is_length, is_result_decimals, is_half_adjust, is_told, names_one};
 
 use crate::inputs::widest_of;
 use columns::classes::{at, is_blank};
 use columns::kinds::Class;
 use entries::{is_blank_or, is_name, is_number, is_numeric, is_text, value};
-use operations::Operation;
+use operations::{Operation, Takes};
 
 // Filled where the entry is taken, and blank where it is not.
 fn is_filled(taken: bool, s: &[u8]) -> bool
@@ -16,56 +18,24 @@ fn is_filled(taken: bool, s: &[u8]) -> bool
     taken != is_blank(s)
 }
 
-fn has_factor1(operation: Option<Operation>, s: &[u8]) -> bool
-    ensures { result ≡ is_asked (λ t. t.factor1) operation s.now }
+// Filled or blank as the operation asks of an entry; an unknown operation asks nothing.
+fn is_asked<F: FnOnce(Takes) -> bool>(entry: F, operation: Option<Operation>, s: &[u8]) -> bool
+    requires { F.IsAlwaysCallable entry }
+    ensures { MatchOption operation (result ≡ true) (λ o. (taken : Bool) × F.post entry (takes_of o) taken × (result ≡ is_filled taken s.now)) }
 {
     match operation {
-        Some(known) => is_filled(known.takes().factor1, s),
+        Some(known) => is_filled(entry(known.takes()), s),
         None => true,
     }
 }
 
-fn has_factor2(operation: Option<Operation>, s: &[u8]) -> bool
-    ensures { result ≡ is_asked (λ t. t.factor2) operation s.now }
+// Blank, unless the operation may have the entry; an unknown operation may have each.
+fn is_allowed<F: FnOnce(Takes) -> bool>(may: F, operation: Option<Operation>, s: &[u8]) -> bool
+    requires { F.IsAlwaysCallable may }
+    ensures { MatchOption operation (result ≡ true) (λ o. (has : Bool) × F.post may (takes_of o) has × (result ≡ (has || is_blank s.now))) }
 {
     match operation {
-        Some(known) => is_filled(known.takes().factor2, s),
-        None => true,
-    }
-}
-
-fn has_result(operation: Option<Operation>, s: &[u8]) -> bool
-    ensures { result ≡ is_asked (λ t. t.result) operation s.now }
-{
-    match operation {
-        Some(known) => is_filled(known.takes().result, s),
-        None => true,
-    }
-}
-
-fn may_define(operation: Option<Operation>, s: &[u8]) -> bool
-    ensures { result ≡ is_allowed (λ t. t.result) operation s.now }
-{
-    match operation {
-        Some(known) => known.takes().result || is_blank(s),
-        None => true,
-    }
-}
-
-fn may_half_adjust(operation: Option<Operation>, s: &[u8]) -> bool
-    ensures { result ≡ is_allowed (λ t. t.half_adjust) operation s.now }
-{
-    match operation {
-        Some(known) => known.takes().half_adjust || is_blank(s),
-        None => true,
-    }
-}
-
-fn may_tell(operation: Option<Operation>, s: &[u8]) -> bool
-    ensures { result ≡ is_allowed (λ t. t.tells) operation s.now }
-{
-    match operation {
-        Some(known) => known.takes().tells || is_blank(s),
+        Some(known) => may(known.takes()) || is_blank(s),
         None => true,
     }
 }
@@ -80,27 +50,28 @@ pub(crate) fn is_optional_name(s: &[u8]) -> bool
 pub(crate) fn is_factor1(operation: Option<Operation>, s: &[u8]) -> bool
     ensures { result ≡ is_factor1 operation s.now }
 {
-    is_optional_name(s) && has_factor1(operation, s)
+    is_optional_name(s) && is_asked(|takes| takes.factor1, operation, s)
 }
 
 // A name or a literal.
 pub(crate) fn is_factor2(operation: Option<Operation>, s: &[u8]) -> bool
     ensures { result ≡ is_factor2 operation s.now }
 {
-    (is_blank(s) || is_name(s) || is_numeric(s) || is_text(s)) && has_factor2(operation, s)
+    (is_blank(s) || is_name(s) || is_numeric(s) || is_text(s))
+        && is_asked(|takes| takes.factor2, operation, s)
 }
 
 pub(crate) fn is_result(operation: Option<Operation>, s: &[u8]) -> bool
     ensures { result ≡ is_result operation s.now }
 {
-    is_optional_name(s) && has_result(operation, s)
+    is_optional_name(s) && is_asked(|takes| takes.result, operation, s)
 }
 
 // The length of a result that the card defines.
 pub(crate) fn is_length(operation: Option<Operation>, s: &[u8], decimals: &[u8]) -> bool
     ensures { result ≡ is_length operation s.now decimals.now }
 {
-    is_blank(s) || (is_size(s, decimals) && may_define(operation, s))
+    is_blank(s) || (is_size(s, decimals) && is_allowed(|takes| takes.result, operation, s))
 }
 
 // A length that a number or a text may have.
@@ -108,7 +79,7 @@ fn is_size(s: &[u8], decimals: &[u8]) -> bool
     ensures { result ≡ is_size s.now decimals.now }
 {
     let length = value(s);
-    is_number(s) && length >= 1 && length <= widest_of(decimals)
+    is_number(s) && (1..=widest_of(decimals)).contains(&length)
 }
 
 // Decimals of a result: beside a length, and no more than it.
@@ -123,22 +94,19 @@ pub(crate) fn is_result_decimals(s: &[u8], decimals: &[u8]) -> bool
 pub(crate) fn is_half_adjust(operation: Option<Operation>, s: &[u8]) -> bool
     ensures { result ≡ is_half_adjust operation s.now }
 {
-    is_blank(s) || (at(s, 0) == b'H' && may_half_adjust(operation, s))
+    is_blank(s) || (at(s, 0) == b'H' && is_allowed(|takes| takes.half_adjust, operation, s))
 }
 
 // An indicator that tells of the result.
 pub(crate) fn is_told(operation: Option<Operation>, s: &[u8]) -> bool
     ensures { result ≡ is_told operation s.now }
 {
-    is_blank_or(1, 99, s) && may_tell(operation, s)
+    is_blank_or(1, 99, s) && is_allowed(|takes| takes.tells, operation, s)
 }
 
 // An operation that sets indicators names one.
 pub(crate) fn names_one(operation: Option<Operation>, s: &[u8]) -> bool
     ensures { result ≡ names_one operation s.now }
 {
-    match operation {
-        Some(known) => !known.takes().sets || !is_blank(s),
-        None => true,
-    }
+    operation.is_none_or(|known| !known.takes().sets || !is_blank(s))
 }

@@ -11,7 +11,7 @@ pub(crate) fn is_position(s: &[u8]) -> bool
     ensures { result ≡ is_position s.now }
 {
     let position = value(s);
-    is_number(s) && position >= 1 && position <= 80
+    is_number(s) && (1..=80).contains(&position)
 }
 
 // A code: a position, N or a blank, C, and a character.
@@ -19,7 +19,7 @@ fn is_filled_code(s: &[u8]) -> bool
     ensures { result ≡ is_filled_code s.now }
 {
     is_position(front(s, 4))
-        && (at(s, 4) == b' ' || at(s, 4) == b'N')
+        && matches!(at(s, 4), b' ' | b'N')
         && at(s, 5) == b'C'
         && Class::Printable.has(at(s, 6))
 }

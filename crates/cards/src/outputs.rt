@@ -10,14 +10,14 @@ use images::EditCode;
 pub(crate) fn is_line_kind(s: &[u8]) -> bool
     ensures { result ≡ is_line_kind s.now }
 {
-    at(s, 0) == b'H' || at(s, 0) == b'D' || at(s, 0) == b'T'
+    matches!(at(s, 0), b'H' | b'D' | b'T')
 }
 
 // 1 to 3, or nothing.
 pub(crate) fn is_spacing(s: &[u8]) -> bool
     ensures { result ≡ is_spacing s.now }
 {
-    is_blank(s) || (at(s, 0) >= b'1' && at(s, 0) <= b'3')
+    is_blank(s) || matches!(at(s, 0), b'1'..=b'3')
 }
 
 // An edit code, or nothing.
@@ -39,7 +39,7 @@ pub(crate) fn is_end(s: &[u8]) -> bool
     ensures { result ≡ is_end s.now }
 {
     let end = value(s);
-    is_number(s) && end >= 1 && end <= 132
+    is_number(s) && (1..=132).contains(&end)
 }
 
 // A constant where no name stands.
