@@ -396,12 +396,5 @@ pub fn last_column() -> u8
     ensures value { result ≡ 80 }
     ensures covers { Covers result }
 {
-    covered()
-}
-
-fn covered() -> u8
-    ensures value { result ≡ 80 }
-    ensures covers { Covers result }
-{
     80
 }

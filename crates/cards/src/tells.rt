@@ -13,7 +13,7 @@ use columns::kinds::Class;
 use devices::Card;
 use entries::{indicator, is_among, is_blank_or, is_condition, is_name};
 use operations::{Operation, read_operation};
-use rules::{Breach, Refusal, each, punch, rule};
+use rules::{Breach, Refusal, each, punch};
 
 // The kind of a card: a comment by its asterisk, and any other by its form letter and the entry that only a
 // record card fills.
@@ -74,14 +74,15 @@ fn operation(card: &Card) -> Option<Operation>
 }
 
 // What one rule tells of a card.
-fn tell(highest: u8, card: &Card, what: What, from: u8, to: u8) -> Option<Breach>
-    ensures { result ≡ tells highest card.now.columns what from to }
+fn tell(highest: u8, card: &Card, rule: Rule) -> Option<Breach>
+    ensures { result ≡ tells highest card.now.columns rule.what rule.from rule.to }
 {
+    let Rule { from, to, what } = rule;
     let s = entry(card, from, to);
     match what {
         What::Free => each(card, Class::Printable, from, to),
         What::Blank => each(card, Class::Blank, from, to),
-        What::Form => rule(Refusal::Order, from, is_next(kind_of(card), highest, card)),
+        What::Form => rules::rule(Refusal::Order, from, is_next(kind_of(card), highest, card)),
         What::RecordIndicator => punch(from, is_among(1, 99, indicator(s))),
         What::Code => punch(from, is_code(s)),
         What::From => punch(from, is_position(s)),
@@ -119,12 +120,7 @@ fn tell(highest: u8, card: &Card, what: What, from: u8, to: u8) -> Option<Breach
 fn walk(highest: u8, card: &Card, rules: &[Rule]) -> Option<Breach>
     ensures { result ≡ first_of highest card.now.columns rules.now }
 {
-    for rule in rules {
-        if let Some(breach) = tell(highest, card, rule.what, rule.from, rule.to) {
-            return Some(breach);
-        }
-    }
-    None
+    rules.iter().find_map(|rule| tell(highest, card, *rule))
 }
 
 // The first breach of a card, where `highest` is the highest rank of the cards before it.

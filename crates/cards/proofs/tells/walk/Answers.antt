@@ -1,14 +1,10 @@
-use Rattle.std.proofs.Common.{sym, ◌∙◌, arith}
-use Rattle.cards.proofs.Walking.{walk_more, walk_stop, walk_end}
+use Rattle.std.proofs.Common.{rules}
+use Rattle.cards.specs.declared.kinds.Rule.{Rule}
+use Rattle.cards.specs.declared.kinds.What.TheVariants.{Free}
+use Rattle.cards.proofs.Walking.{first_from_run}
 use Rattle.cards.proofs.tells.walk.Goals as goal
 
-pub returns-in-Some : goal.returns-in-Some
-returns-in-Some c =
-    sym (walk_stop c.args.highest c.args.card.now.columns c.args.rules.now c.loop-rule.rule-index _ c.in-Some.breach (omega arith) (sym c.in-Some.ensures)) ∙ c.loop-rule.invariant
-
-pub loop-rule-preserved : goal.loop-rule-preserved
-loop-rule-preserved c =
-    sym (walk_more c.args.highest c.args.card.now.columns c.args.rules.now c.loop-rule.rule-index _ (omega arith) (sym c.in_default.ensures)) ∙ c.loop-rule.invariant
-
 pub returns : goal.returns
-returns c = sym (walk_end c.args.highest c.args.card.now.columns c.args.rules.now c.loop-rule.rule-index (omega arith)) ∙ c.loop-rule.invariant
+returns c =
+    let d : Rule = record { from = 0; to = 0; what = Free } in
+    first_from_run c.args.highest c.args.card.now.columns c.args.rules.now d c.find_map.result c.find_map.ensures.runs (λ p e. rw c.iter.ensures.rest at (rw e at (c.iter.ensures.runs p p.seen))) (λ x o q k. search rules)

@@ -1,6 +1,6 @@
 use Rattle.std.proofs.Common.{refl}
 use Rattle.cards.proofs.Covering.{covers}
-use Rattle.cards.proofs.layouts.covered.Goals as goal
+use Rattle.cards.proofs.layouts.last_column.Goals as goal
 
 pub returns : goal.returns
 returns c = record { value = refl; covers = covers }
