@@ -3,7 +3,7 @@ use Rattle.std.proofs.Common.{◌≡◌, ℕ, zero, suc, ◌+◌, ◌<◌, ◌�
 use denote.Param.Members.{Mut, Called}
 use native.Mathlib.Numerals.{unary_clauses}
 use Rattle.std.proofs.lemmas.List.{at_drop_more, at_drop_all}
-use Rattle.std.specs.Iterator.Runs.{Run, SomeRun, EveryRun, ItemsMapTo, AllItemsGive, IsFirstToGive}
+use Rattle.std.specs.Iterator.Runs.{Run, SomeRun, ItemsMapTo, AllItemsGive, IsFirstToGive}
 use Rattle.rules.specs.Rules.{Breach, first}
 use Rattle.cards.specs.declared.kinds.Rule.{Rule}
 use Rattle.cards.specs.Punches.{tells, first_of}

@@ -1,6 +1,10 @@
+ghost use Rattle.std.specs.Prelude.{Some};
+ghost use Rattle.cards.specs.Kinds.{letter_of};
+
 use columns::kinds::{Condition, Indicator, Literal, Name};
 use images::EditCode;
 use operations::Operation;
+use std::fmt;
 
 // What a deck card is, by its form letter and by the columns that part record cards from field cards.
 #[derive(Clone, Copy, PartialEq, Eq, Debug)]
@@ -15,7 +19,7 @@ pub enum Kind {
 }
 
 // What may stand in an entry.
-#[derive(Clone, Copy)]
+#[derive(Clone, Copy, PartialEq, Eq, Debug)]
 pub enum What {
     Free,
     Blank,
@@ -50,7 +54,7 @@ pub enum What {
 }
 
 // One rule of a card's layout: the columns of an entry, and what may stand there.
-#[derive(Clone, Copy)]
+#[derive(Clone, Copy, PartialEq, Eq, Debug)]
 pub struct Rule {
     pub from: u8,
     pub to: u8,
@@ -65,31 +69,29 @@ pub enum Shape {
 }
 
 // What identifies a data card: a character at a position, or anything else there.
-#[derive(Clone, Copy)]
+#[derive(Clone, Copy, PartialEq, Eq, Debug)]
 pub struct Code {
     pub position: u16,
     pub negated: bool,
     pub character: u8,
 }
 
-// The three codes of a record card; an absent one asks nothing.
-#[derive(Clone, Copy)]
-pub struct Codes {
-    pub first: Option<Code>,
-    pub second: Option<Code>,
-    pub third: Option<Code>,
+// What up to three entries of one form say.
+#[derive(Clone, Copy, PartialEq, Eq, Debug)]
+pub struct Three<T> {
+    pub first: Option<T>,
+    pub second: Option<T>,
+    pub third: Option<T>,
 }
+
+// The three codes of a record card; an absent one asks nothing.
+pub type Codes = Three<Code>;
 
 // Three conditions; an absent one holds.
-#[derive(Clone, Copy)]
-pub struct Conditions {
-    pub first: Option<Condition>,
-    pub second: Option<Condition>,
-    pub third: Option<Condition>,
-}
+pub type Conditions = Three<Condition>;
 
 // The indicators that tell of a field or a result: plus, minus, zero. A comparison tells high, low, equal by them.
-#[derive(Clone, Copy)]
+#[derive(Clone, Copy, PartialEq, Eq, Debug)]
 pub struct Told {
     pub plus: Option<Indicator>,
     pub minus: Option<Indicator>,
@@ -97,14 +99,14 @@ pub struct Told {
 }
 
 // An input record card: a record type.
-#[derive(Clone, Copy)]
+#[derive(Clone, Copy, PartialEq, Eq, Debug)]
 pub struct RecordCard {
     pub indicator: Indicator,
     pub codes: Codes,
 }
 
 // An input field card: a field of the record type before it.
-#[derive(Clone, Copy)]
+#[derive(Clone, Copy, PartialEq, Eq, Debug)]
 pub struct FieldCard {
     pub name: Name,
     pub from: u16,
@@ -114,7 +116,7 @@ pub struct FieldCard {
 }
 
 // The second factor of a calculation. Of an alphameric literal the card keeps the length: its bytes stay in the deck.
-#[derive(Clone, Copy)]
+#[derive(Clone, Copy, PartialEq, Eq, Debug)]
 pub enum Factor {
     Absent,
     Field(Name),
@@ -123,7 +125,7 @@ pub enum Factor {
 }
 
 // A calculation card; one with a level is a total calculation.
-#[derive(Clone, Copy)]
+#[derive(Clone, Copy, PartialEq, Eq, Debug)]
 pub struct CalculationCard {
     pub level: Option<Indicator>,
     pub conditions: Conditions,
@@ -144,8 +146,20 @@ pub enum LineKind {
     Total,
 }
 
+impl fmt::Display for LineKind {
+    ghost output = { λ kind. Some (letter_of kind) };
+
+    fn fmt<W: fmt::Write>(&self, f: &mut fmt::Formatter<W>) -> fmt::Result {
+        f.write_str(match self {
+            LineKind::Heading => "H",
+            LineKind::Detail => "D",
+            LineKind::Total => "T",
+        })
+    }
+}
+
 // An output record card: a line to be printed.
-#[derive(Clone, Copy)]
+#[derive(Clone, Copy, PartialEq, Eq, Debug)]
 pub struct OutputRecordCard {
     pub kind: LineKind,
     pub spacing: u16,
@@ -153,7 +167,7 @@ pub struct OutputRecordCard {
 }
 
 // What an output field card prints. Of a constant the card keeps the length: its bytes stay in the deck.
-#[derive(Clone, Copy)]
+#[derive(Clone, Copy, PartialEq, Eq, Debug)]
 pub enum Printed {
     Field {
         name: Name,
@@ -167,7 +181,7 @@ pub enum Printed {
 }
 
 // An output field card: a part of the line of the record card before it.
-#[derive(Clone, Copy)]
+#[derive(Clone, Copy, PartialEq, Eq, Debug)]
 pub struct OutputFieldCard {
     pub conditions: Conditions,
     pub printed: Printed,
@@ -175,7 +189,7 @@ pub struct OutputFieldCard {
 }
 
 // A deck card, read off its columns. Names are not looked up yet.
-#[derive(Clone, Copy)]
+#[derive(Clone, Copy, PartialEq, Eq, Debug)]
 pub enum DeckCard {
     Comment,
     Record(RecordCard),
