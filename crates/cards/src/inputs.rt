@@ -45,7 +45,8 @@ pub(crate) fn widest_of(decimals: &[u8]) -> u16
     if is_blank(decimals) { 32 } else { 9 }
 }
 
-// A field's last position.
+// A field's last position. Its columns and those of the other entries come apart, and so they stay: a rule gives the
+// ones, and the card the others.
 pub(crate) fn is_to(from: &[u8], to: &[u8], decimals: &[u8]) -> bool
     ensures { result ≡ is_to from.now to.now decimals.now }
 {

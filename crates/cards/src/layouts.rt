@@ -3,6 +3,7 @@ ghost use Rattle.cards.specs.Layouts.{layout_of, Covers};
 
 use crate::kinds::{Kind, Rule, What};
 
+// Each rule is written out: tried as a call of a `const fn`, which a constant's value may not hold.
 static RECORD: [Rule; 10] = [
     Rule {
         from: 1,

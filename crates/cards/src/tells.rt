@@ -40,6 +40,7 @@ pub fn kind_of(card: &Card) -> Kind
 }
 
 // Where a card stands in the order of cards: input 1, detail calculations 2, total calculations 3, output 4.
+// Numbers and no enum: `punches` takes any number for `highest`, and an enum would ask more of its callers.
 pub fn rank(kind: Kind, card: &Card) -> u8
     ensures { result ≡ rank_of kind card.now.columns }
 {
@@ -73,7 +74,8 @@ fn operation(card: &Card) -> Option<Operation>
     read_operation(entry(card, 28, 32))
 }
 
-// What one rule tells of a card.
+// What one rule tells of a card. One match over all that may stand in an entry: each arm is a line of the table that
+// the contract names.
 fn tell(highest: u8, card: &Card, rule: Rule) -> Option<Breach>
     ensures { result ≡ tells highest card.now.columns rule.what rule.from rule.to }
 {

@@ -5,6 +5,7 @@ use Rattle.columns.specs.Classes.{columns, is_blank}
 use Rattle.entries.specs.Entries.{is_name, value_of}
 use Rattle.entries.specs.Indicators.{indicator_of, condition_of}
 use Rattle.entries.specs.Literals.{text_of, text_length, numeric_of}
+use Rattle.columns.specs.declared.kinds.Condition.{Condition}
 use Rattle.columns.specs.declared.kinds.Literal.{Literal}
 use Rattle.images.specs.Edits.{code_of}
 use Rattle.cards.specs.declared.kinds.Kind.{Kind}
@@ -12,8 +13,7 @@ use Rattle.cards.specs.declared.kinds.Kind.TheVariants as kind
 use Rattle.cards.specs.declared.kinds.Shape.{Shape}
 use Rattle.cards.specs.declared.kinds.Shape.TheVariants as shape
 use Rattle.cards.specs.declared.kinds.Code.{Code}
-use Rattle.cards.specs.declared.kinds.Codes.{Codes}
-use Rattle.cards.specs.declared.kinds.Conditions.{Conditions}
+use Rattle.cards.specs.declared.kinds.Three.{Three}
 use Rattle.cards.specs.declared.kinds.Told.{Told}
 use Rattle.cards.specs.declared.kinds.RecordCard.{RecordCard}
 use Rattle.cards.specs.declared.kinds.FieldCard.{FieldCard}
@@ -46,7 +46,7 @@ abbrev pub code_in : List ℕ → Option Code
 code_in s = cond (is_blank s) None (Some (record { position = value_of s; negated = (slice_index s 4 == 78); character = slice_index s 6 }))
 
 -- three conditions in the nine columns from a on
-abbrev pub conditions_in : List ℕ → ℕ → Conditions
+abbrev pub conditions_in : List ℕ → ℕ → Three Condition
 conditions_in c a = record {
   first = condition_of (columns c a (a + 2));
   second = condition_of (columns c (a + 3) (a + 5));
@@ -61,7 +61,7 @@ told_in c a = record {
   zero = indicator_of (columns c (a + 4) (a + 5));
 }
 
-abbrev pub codes_in : List ℕ → Codes
+abbrev pub codes_in : List ℕ → Three Code
 codes_in c = record {
   first = code_in (columns c 21 27);
   second = code_in (columns c 28 34);

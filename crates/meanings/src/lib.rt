@@ -6,14 +6,16 @@
 // The crate looks at one card at a time. Names stay as they are punched: looking them up is for the deck.
 #![tactic(auto)]
 
-ghost use Rattle.std.specs.Prelude.{◌≡◌, ◌+◌, ◌≤◌};
+ghost use Rattle.std.specs.Prelude.{◌≡◌, ◌+◌, ◌-◌, ◌*◌, ◌≤◌};
+ghost use Rattle.std.specs.Fn.{FnReturnsAt};
+ghost use Rattle.columns.specs.Classes.{columns};
 ghost use Rattle.entries.specs.Literals.{text_of, text_length};
 ghost use Rattle.meanings.specs.Meanings.{name_of, name_in, shape_of, code_in, conditions_in, told_in, codes_in, record_of, field_of, literal_factor, factor_of, result_shape, calculation_of, line_kind_of, spacing_of, output_record_of, printed_of, output_field_of, meant_by, card_of};
 
 use cards::inputs::width;
 use cards::kinds::{
     CalculationCard, Code, Codes, Conditions, DeckCard, Factor, FieldCard, Kind, LineKind,
-    OutputFieldCard, OutputRecordCard, Printed, RecordCard, Shape, Told,
+    OutputFieldCard, OutputRecordCard, Printed, RecordCard, Shape, Three, Told,
 };
 use cards::tells::kind_of;
 use columns::classes::{at, entry, is_blank};
@@ -34,7 +36,7 @@ fn name_of(s: &[u8]) -> Name
 fn name_in(s: &[u8]) -> Option<Name>
     ensures { result ≡ name_in s.now }
 {
-    if is_blank(s) { None } else { Some(name_of(s)) }
+    (!is_blank(s)).then_some(name_of(s))
 }
 
 // A number with decimals, or text where they are blank.
@@ -54,24 +56,33 @@ fn shape(width: u16, decimals: &[u8]) -> Shape
 fn code(s: &[u8]) -> Option<Code>
     ensures { result ≡ code_in s.now }
 {
-    if is_blank(s) {
-        return None;
-    }
-    Some(Code {
+    (!is_blank(s)).then(|| Code {
         position: value(s),
         negated: at(s, 4) == b'N',
         character: at(s, 6),
     })
 }
 
+// What three entries of one width say, which stand one after another from a column on.
+fn three<T, F: Fn(&[u8]) -> Option<T>>(card: &Card, from: u8, width: u8, read: F) -> Three<T>
+    requires callable { F.IsAlwaysCallable read }
+    requires filled { 1 ≤ width }
+    requires fits { from + 3 * width ≤ 81 }
+    ensures first { FnReturnsAt F.Fn read (columns card.now.columns from (from + (width - 1))) result.first }
+    ensures second { FnReturnsAt F.Fn read (columns card.now.columns (from + width) (from + (2 * width - 1))) result.second }
+    ensures third { FnReturnsAt F.Fn read (columns card.now.columns (from + 2 * width) (from + (3 * width - 1))) result.third }
+{
+    Three {
+        first: read(entry(card, from, from + (width - 1))),
+        second: read(entry(card, from + width, from + (2 * width - 1))),
+        third: read(entry(card, from + 2 * width, from + (3 * width - 1))),
+    }
+}
+
 fn codes(card: &Card) -> Codes
     ensures { result ≡ codes_in card.now.columns }
 {
-    Codes {
-        first: code(entry(card, 21, 27)),
-        second: code(entry(card, 28, 34)),
-        third: code(entry(card, 35, 41)),
-    }
+    three(card, 21, 7, code)
 }
 
 // Three conditions in the nine columns from one on.
@@ -79,11 +90,7 @@ fn conditions(card: &Card, from: u8) -> Conditions
     requires { from ≤ 72 }
     ensures { result ≡ conditions_in card.now.columns from }
 {
-    Conditions {
-        first: condition(entry(card, from, from + 2)),
-        second: condition(entry(card, from + 3, from + 5)),
-        third: condition(entry(card, from + 6, from + 8)),
-    }
+    three(card, from, 3, |s| condition(s))
 }
 
 // Three indicators in the six columns from one on.
@@ -91,10 +98,11 @@ fn told(card: &Card, from: u8) -> Told
     requires { from ≤ 75 }
     ensures { result ≡ told_in card.now.columns from }
 {
+    let indicators = three(card, from, 2, |s| indicator(s));
     Told {
-        plus: indicator(entry(card, from, from + 1)),
-        minus: indicator(entry(card, from + 2, from + 3)),
-        zero: indicator(entry(card, from + 4, from + 5)),
+        plus: indicators.first,
+        minus: indicators.second,
+        zero: indicators.third,
     }
 }
 
@@ -124,10 +132,7 @@ fn field(card: &Card) -> FieldCard
 fn text_length(s: &[u8]) -> usize
     ensures { result ≡ text_length (text_of s.now) }
 {
-    match text(s) {
-        Some(inside) => inside.len(),
-        None => 0,
-    }
+    text(s).map_or(0, |inside| inside.len())
 }
 
 // A number where the literal reads as one, and otherwise a text.
@@ -158,11 +163,7 @@ fn factor(s: &[u8]) -> Factor
 fn result_shape(length: &[u8], decimals: &[u8]) -> Option<Shape>
     ensures { result ≡ result_shape length.now decimals.now }
 {
-    if is_blank(length) {
-        None
-    } else {
-        Some(shape(value(length), decimals))
-    }
+    (!is_blank(length)).then(|| shape(value(length), decimals))
 }
 
 fn calculation(card: &Card) -> CalculationCard
