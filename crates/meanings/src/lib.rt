@@ -24,12 +24,13 @@ use devices::Card;
 use entries::{condition, indicator, is_name, numeric, text, value};
 use images::EditCode;
 use operations::read_operation;
+use std::array;
 
 // The six columns of a name.
 fn name_of(s: &[u8]) -> Name
     ensures { result ≡ name_of s.now }
 {
-    [at(s, 0), at(s, 1), at(s, 2), at(s, 3), at(s, 4), at(s, 5)]
+    array::from_fn(|i| at(s, i))
 }
 
 // A name, unless the entry is blank.
@@ -213,19 +214,17 @@ fn output_record(card: &Card) -> OutputRecordCard
 fn printed(card: &Card) -> Printed
     ensures { result ≡ printed_of card.now.columns }
 {
-    let name = entry(card, 32, 37);
     let edit = EditCode::from_byte(card.columns[37]);
-    if is_blank(name) {
-        Printed::Constant {
-            edit,
-            length: text_length(entry(card, 45, 70)),
-        }
-    } else {
-        Printed::Field {
-            name: name_of(name),
+    match name_in(entry(card, 32, 37)) {
+        Some(name) => Printed::Field {
+            name,
             edit,
             blank_after: !is_blank(entry(card, 39, 39)),
-        }
+        },
+        None => Printed::Constant {
+            edit,
+            length: text_length(entry(card, 45, 70)),
+        },
     }
 }
 
