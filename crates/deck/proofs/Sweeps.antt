@@ -1,15 +1,18 @@
 -- The steps of a sweep over places, and the first entry of one list after another.
-use Rattle.std.proofs.Common.{◌≡◌, ℕ, suc, ◌+◌, ◌-◌, ◌<◌, ◌≤◌, List, [], ◌∷◌, ◌++◌, map, Some, None, Err, Option, sym, refl, ap, ◌∙◌, add-one, arith}
+use Rattle.std.proofs.Common.{◌≡◌, ℕ, suc, ◌+◌, ◌-◌, ◌*◌, ◌<◌, ◌≤◌, false, List, [], ◌∷◌, ◌++◌, map, length, get_or, Some, None, Err, Option, Result, sym, refl, ap, ◌∙◌, subst, arith}
 use Rattle.std.specs.List.{range_with_len}
+use Rattle.std.proofs.lemmas.List.FromFn.{get_or-map-range_with_len, length-map-range_with_len}
+use Rattle.std.proofs.lemmas.Bool.Decides.{nat_tests}
 use Rattle.rules.specs.Rules.{first, IsFirst}
 use Rattle.rules.proofs.Firsts.{first-none, first_some}
+use Rattle.fields.specs.Fields.{Fields}
 use Rattle.deck.specs.declared.kinds.Breach.{Breach}
 use Rattle.deck.specs.declared.kinds.ReadError.{ReadError}
 use Rattle.deck.specs.declared.kinds.ReadError.TheVariants.{Refused, NoMemory}
 use Rattle.deck.specs.Acted.{Acted}
-use Rattle.deck.specs.Decks.{count, cut, rules, first_at, second_at, first_sweep, second_sweep, defined_by, seen_by, acted_by, Table, deck_of}
+use Rattle.deck.specs.Decks.{card_at, cards, count, is_cut, cut, rules, first_sweep, second_sweep, defined_by, seen_by, acted_by, fields_in, Table, deck_of}
 use Rattle.deck.specs.Defined.{Defined, Before}
-use Rattle.deck.specs.Steps.{TakenIn, AllTakenIn, LookedUp, AllLookedUp, Filled}
+use Rattle.deck.specs.Steps.{DoneUnless, Takes, TakenIn, AllTakenIn, LooksUp, LookedUp, AllLookedUp, Filled}
 
 counting_more : (k n : ℕ) → k < n → range_with_len k (n - k) ≡ k ∷ range_with_len (k + 1) (n - (k + 1))
 counting_more k n h = let e : n - k ≡ suc (n - (k + 1)) = omega arith in ap (range_with_len k) e
@@ -39,34 +42,43 @@ module _ {X : Type 0} where
   first-within (None ∷ xs) ys b e = first-within xs ys b e
   first-within (Some x ∷ xs) ys b e = e
 
--- one card of the first sweep
-module _ (text : List ℕ) (k : ℕ) (inside : k < count text)
-    (to-come : first (map (first_at text) (range_with_len k (count text - k))) ≡ first (first_sweep text)) where
-  pub taken_stop : (e : ReadError) (d : Defined) (b : Before) → TakenIn text k (Err e) d b → AllTakenIn text (Err e) d
-  taken_stop (Refused r) d b t = sym to-come ∙ sweep_stop (first_at text) k (count text) r inside t
-  taken_stop NoMemory d b t = tt
+-- one step of a sweep
+module _ (tell : ℕ → Option Breach) (k n : ℕ) (inside : k < n) (to-come : first (map tell (range_with_len k (n - k))) ≡ first (map tell (range_with_len 0 n))) where
+  pub stopped : (e : ReadError) → DoneUnless (tell k) (Unit {0}) (Err e) → DoneUnless (first (map tell (range_with_len 0 n))) (Unit {0}) (Err e)
+  stopped (Refused b) t = sym to-come ∙ sweep_stop tell k n b inside t
+  stopped NoMemory t = tt
 
-  pub taken_more : (d : Defined) (b : Before) → (first_at text k ≡ None) × (d ≡ defined_by text (suc k)) × (b ≡ seen_by text (suc k))
-      → (first (map (first_at text) (range_with_len (k + 1) (count text - (k + 1)))) ≡ first (first_sweep text))
-      × (d ≡ defined_by text (k + 1)) × (b ≡ seen_by text (k + 1))
-  taken_more d b t = (
-    sym (sweep_more (first_at text) k (count text) inside t.0) ∙ to-come,
-    t.1 ∙ ap (defined_by text) (sym (add-one k)),
-    t.2 ∙ ap (seen_by text) (sym (add-one k)),
-  )
+  pub went_on : tell k ≡ None → first (map tell (range_with_len (k + 1) (n - (k + 1)))) ≡ first (map tell (range_with_len 0 n))
+  went_on t = sym (sweep_more tell k n inside t) ∙ to-come
 
--- one card of the second sweep
-module _ (text : List ℕ) (k : ℕ) (inside : k < count text)
-    (to-come : first (map (second_at text) (range_with_len k (count text - k))) ≡ first (second_sweep text)) where
-  pub looked_stop : (e : ReadError) (a : Acted) → LookedUp text k (Err e) a → AllLookedUp text (Err e) a
-  looked_stop (Refused r) a t = sym to-come ∙ sweep_stop (second_at text) k (count text) r inside t
-  looked_stop NoMemory a t = tt
+-- a sweep that is over
+pub swept : {S : Type 0} (tell : ℕ → Option Breach) (by_place : ℕ → S) (k n : ℕ) (s : S) → k ≡ n
+    → first (map tell (range_with_len k (n - k))) ≡ first (map tell (range_with_len 0 n)) → s ≡ by_place k
+    → (first (map tell (range_with_len 0 n)) ≡ None) × (s ≡ by_place n)
+swept tell by_place k n s e to-come is = (sym to-come ∙ sweep_end tell k n (omega (arith, e)), is ∙ ap by_place e)
 
-  pub looked_more : (a : Acted) → (second_at text k ≡ None) × (a ≡ acted_by text (suc k))
-      → (first (map (second_at text) (range_with_len (k + 1) (count text - (k + 1)))) ≡ first (second_sweep text))
-      × (a ≡ acted_by text (k + 1))
-  looked_more a t =
-      (sym (sweep_more (second_at text) k (count text) inside t.0) ∙ to-come, t.1 ∙ ap (acted_by text) (sym (add-one k)))
+-- the cards of a text
+module _ (text : List ℕ) (cs : List (List ℕ)) (all : cs ≡ cards text) where
+  pub as_many : length cs ≡ count text
+  as_many = ap length all ∙ length-map-range_with_len (card_at text) 0 (count text)
+
+  module _ (k : ℕ) (inside : k < length cs) where
+    pub within : k < count text
+    within = subst (λ (n : ℕ). k < n) as_many inside
+
+    pub few : is_cut text ≡ false → k < 256
+    few whole = let h : length text ≤ 20480 = grind (arith, nat_tests) in omega (arith, within, h)
+
+    card_is : get_or cs k [] ≡ card_at text k
+    card_is = ap (λ xs. get_or xs k []) all ∙ get_or-map-range_with_len (card_at text) 0 (count text) k k [] within (omega arith)
+
+    pub taken : (d : Defined) (b : Before) (r : Result (Unit {0}) ReadError) (e : Defined) (s : Before) → d ≡ defined_by text k → b ≡ seen_by text k
+        → Takes d b k (get_or cs k []) r e s → TakenIn text k r e s
+    taken d b r e s p q t = rw (p, q, card_is) at t
+
+    pub looked : (f : Fields) (a : Acted) (r : Result (Unit {0}) ReadError) (b : Acted) → f ≡ fields_in text → a ≡ acted_by text k
+        → LooksUp f a k (get_or cs k []) r b → LookedUp text k r b
+    looked f a r b p q t = rw (p, q, card_is) at t
 
 -- the whole deck
 module _ (text : List ℕ) (whole : cut text ≡ None) where

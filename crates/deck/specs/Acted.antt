@@ -12,6 +12,7 @@ use Rattle.cards.specs.declared.kinds.OutputRecordCard.{OutputRecordCard}
 use Rattle.cards.specs.declared.kinds.OutputFieldCard.{OutputFieldCard}
 use Rattle.cards.specs.declared.kinds.DeckCard.{DeckCard}
 use Rattle.cards.specs.declared.kinds.DeckCard.TheVariants as card
+use Rattle.deck.specs.declared.kinds.Part.{Part}
 use Rattle.deck.specs.declared.kinds.Operand.{Operand}
 use Rattle.deck.specs.declared.kinds.Operand.TheVariants as operand
 use Rattle.deck.specs.declared.kinds.Calculation.{Calculation}
@@ -37,24 +38,28 @@ no_actions = record { detail = []; total = []; records = []; detail_lines = []; 
 
 abbrev pub acted_of : Actions → Acted
 acted_of a = record {
-  detail = vec_items a.detail;
-  total = vec_items a.total;
+  detail = vec_items a.calculations.detail;
+  total = vec_items a.calculations.total;
   records = vec_items a.records;
-  detail_lines = vec_items a.detail_lines;
-  total_lines = vec_items a.total_lines;
+  detail_lines = vec_items a.lines.detail;
+  total_lines = vec_items a.lines.total;
   outputs = vec_items a.outputs;
 }
+
+-- the part of the text that begins behind a column of the card at place k
+abbrev pub part_behind : ℕ → ℕ → ℕ → Part
+part_behind k column n = record { at = 80 * k + column; length = n }
 
 -- a text literal begins behind the apostrophe in column 33 of the card at place k, a constant behind that in column 45
 abbrev pub operand_of : Fields → ℕ → Factor → Operand
 operand_of f k factor.Absent = operand.Absent
 operand_of f k (factor.Field n) = operand.Field (place_of f n)
 operand_of f k (factor.Number l) = operand.Number l
-operand_of f k (factor.Text n) = operand.Text (80 * k + 33) n
+operand_of f k (factor.Text n) = operand.Text (part_behind k 33 n)
 
 abbrev pub source_of : Fields → ℕ → Printed → Source
 source_of f k (printed.Field n e b) = source.Field (place_of f n) e b
-source_of f k (printed.Constant e n) = source.Constant (80 * k + 45) n
+source_of f k (printed.Constant e n) = source.Constant (part_behind k 45 n)
 
 abbrev pub calculation_of : Fields → ℕ → CalculationCard → Calculation
 calculation_of f k c = record {
@@ -81,6 +86,11 @@ abbrev pub is_total : LineKind → Bool
 is_total Heading = false
 is_total Detail = false
 is_total Total = true
+
+-- what is done at one time, and an item that comes last if it is done then
+abbrev pub with_item : {X : Type 0} → List X → Bool → X → List X
+with_item xs true x = xs ++ x ∷ []
+with_item xs false x = xs
 
 abbrev pub add_line : Acted → Bool → OutputRecord → Acted
 add_line a true r = record { detail = a.detail; total = a.total; records = a.records ++ r ∷ []; detail_lines = a.detail_lines; total_lines = a.total_lines ++ length a.records ∷ []; outputs = a.outputs }

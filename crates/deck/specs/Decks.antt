@@ -20,12 +20,15 @@ use Rattle.fields.specs.Fields.{Fields}
 use Rattle.deck.specs.Rules.{full, doubles}
 use Rattle.uses.specs.Uses.{unknowns, kinds}
 
--- the columns of the card at place k, counted from 0, and how many cards there are
+-- the columns of the card at place k, counted from 0, how many cards there are, and all of them
 abbrev pub card_at : List ℕ → ℕ → List ℕ
 card_at text k = take 80 (drop (80 * k) text)
 
 abbrev pub count : List ℕ → ℕ
 count text = length text / 80
+
+abbrev pub cards : List ℕ → List (List ℕ)
+cards text = map (card_at text) (range_with_len 0 (count text))
 
 -- what the first k cards define, and what the rules ask of them
 abbrev pub defined_by : List ℕ → ℕ → Defined

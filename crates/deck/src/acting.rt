@@ -1,10 +1,10 @@
-ghost use Rattle.std.specs.Prelude.{◌≡◌, ℕ, ◌+◌, ◌*◌, ◌<◌, List, [], ◌∷◌, ◌++◌, length, OnOk};
+ghost use Rattle.std.specs.Prelude.{◌≡◌, ℕ, ◌+◌, ◌*◌, not, List, [], ◌∷◌, ◌++◌, length, OnOk};
 ghost use Rattle.std.specs.Option.{option_map};
-ghost use Rattle.deck.specs.Acted.{acted_of, no_actions, operand_of, source_of, calculation_of, record_of, output_of, is_total, add_line, add_calculation, add_output, act};
+ghost use Rattle.deck.specs.Acted.{acted_of, no_actions, part_behind, operand_of, source_of, calculation_of, record_of, output_of, is_total, with_item, add_line, add_calculation, add_output, act};
 ghost use Rattle.fields.specs.Fields.{fields_of, place_of};
 
-use crate::actions::Actions;
-use crate::kinds::{Calculation, Operand, Output, OutputRecord, Source};
+use crate::actions::{Actions, ByTime};
+use crate::kinds::{Calculation, Operand, Output, OutputRecord, Part, Source};
 use cards::kinds::{
     CalculationCard, DeckCard, Factor, LineKind, OutputFieldCard, OutputRecordCard, Printed,
 };
@@ -12,86 +12,130 @@ use columns::kinds::Name;
 use fields::FieldTable;
 use std::alloc::{AllocError, Global};
 
-fn place_in(fields: &FieldTable, name: Option<Name>) -> Option<usize>
-    ensures { result ≡ option_map (place_of (fields_of fields.now)) name }
-{
-    match name {
-        Some(name) => Some(fields.place(&name)),
-        None => None,
-    }
-}
-
-// A second factor; a text literal is a part of the deck's text.
-fn operand(fields: &FieldTable, k: usize, factor: Factor) -> Operand
-    requires { k < 256 }
-    ensures { result ≡ operand_of (fields_of fields.now) k factor }
-{
-    match factor {
-        Factor::Absent => Operand::Absent,
-        Factor::Field(name) => Operand::Field(fields.place(&name)),
-        Factor::Number(literal) => Operand::Number(literal),
-        Factor::Text { length } => Operand::Text {
-            at: 80 * k + 33,
+impl Part {
+    // The part that begins behind a column of the card at a place.
+    fn behind(place: u8, column: u8, length: usize) -> Part
+        ensures { result ≡ part_behind place column length }
+    {
+        Part {
+            at: 80 * place as usize + column as usize,
             length,
-        },
+        }
     }
 }
 
-fn source(fields: &FieldTable, k: usize, printed: Printed) -> Source
-    requires { k < 256 }
-    ensures { result ≡ source_of (fields_of fields.now) k printed }
-{
-    match printed {
-        Printed::Field {
-            name,
-            edit,
-            blank_after,
-        } => Source::Field {
-            field: fields.place(&name),
-            edit,
-            blank_after,
-        },
-        Printed::Constant { length, .. } => Source::Constant {
-            at: 80 * k + 45,
-            length,
-        },
-    }
+// The field table in which the names of a card are looked up, and the card's place in the deck.
+#[derive(Clone, Copy)]
+pub(crate) struct Lookup<'a> {
+    pub(crate) fields: &'a FieldTable,
+    pub(crate) place: u8,
 }
 
-fn calculation(fields: &FieldTable, k: usize, c: &CalculationCard) -> Calculation
-    requires { k < 256 }
-    ensures { result ≡ calculation_of (fields_of fields.now) k c.now }
-{
-    Calculation {
-        card: k + 1,
-        level: c.level,
-        conditions: c.conditions,
-        operation: c.operation,
-        factor1: place_in(fields, c.factor1),
-        factor2: operand(fields, k, c.factor2),
-        result: place_in(fields, c.result),
-        half_adjust: c.half_adjust,
-        told: c.told,
+impl<'a> Lookup<'a> {
+    fn field(&self, name: Option<Name>) -> Option<usize>
+        ensures { result ≡ option_map (place_of (fields_of self.now.fields.now)) name }
+    {
+        // Tried: name.map(..), but the proof knows too little of a closure that calls `place`.
+        match name {
+            Some(name) => Some(self.fields.place(&name)),
+            None => None,
+        }
     }
-}
 
-fn output(fields: &FieldTable, k: usize, o: &OutputFieldCard) -> Output
-    requires { k < 256 }
-    ensures { result ≡ output_of (fields_of fields.now) k o.now }
-{
-    Output {
-        conditions: o.conditions,
-        source: source(fields, k, o.printed),
-        end: o.end,
+    // A second factor; a text literal is a part of the deck's text.
+    fn operand(&self, factor: Factor) -> Operand
+        ensures { result ≡ operand_of (fields_of self.now.fields.now) self.now.place factor }
+    {
+        match factor {
+            Factor::Absent => Operand::Absent,
+            Factor::Field(name) => Operand::Field(self.fields.place(&name)),
+            Factor::Number(literal) => Operand::Number(literal),
+            Factor::Text { length } => Operand::Text(Part::behind(self.place, 33, length)),
+        }
+    }
+
+    fn source(&self, printed: Printed) -> Source
+        ensures { result ≡ source_of (fields_of self.now.fields.now) self.now.place printed }
+    {
+        match printed {
+            Printed::Field {
+                name,
+                edit,
+                blank_after,
+            } => Source::Field {
+                field: self.fields.place(&name),
+                edit,
+                blank_after,
+            },
+            Printed::Constant { length, .. } => {
+                Source::Constant(Part::behind(self.place, 45, length))
+            }
+        }
+    }
+
+    fn calculation(&self, c: &CalculationCard) -> Calculation
+        ensures { result ≡ calculation_of (fields_of self.now.fields.now) self.now.place c.now }
+    {
+        Calculation {
+            card: self.place as usize + 1,
+            level: c.level,
+            conditions: c.conditions,
+            operation: c.operation,
+            factor1: self.field(c.factor1),
+            factor2: self.operand(c.factor2),
+            result: self.field(c.result),
+            half_adjust: c.half_adjust,
+            told: c.told,
+        }
+    }
+
+    fn output(&self, o: &OutputFieldCard) -> Output
+        ensures { result ≡ output_of (fields_of self.now.fields.now) self.now.place o.now }
+    {
+        Output {
+            conditions: o.conditions,
+            source: self.source(o.printed),
+            end: o.end,
+        }
     }
 }
 
 fn is_total(kind: LineKind) -> bool
     ensures { result ≡ is_total kind }
 {
-    match kind {
-        LineKind::Heading | LineKind::Detail => false,
-        LineKind::Total => true,
+    matches!(kind, LineKind::Total)
+}
+
+impl<T: Drop> ByTime<T> {
+    // Nothing to do.
+    fn new(heap: Global) -> ByTime<T>
+        ensures detail { result.detail.items ≡ [] }
+        ensures total { result.total.items ≡ [] }
+    {
+        ByTime {
+            detail: Vec::new(heap),
+            total: Vec::new(heap),
+        }
+    }
+
+    fn clear(&mut self)
+        ensures detail { self.new.detail.items ≡ [] }
+        ensures total { self.new.total.items ≡ [] }
+    {
+        self.detail.clear();
+        self.total.clear();
+    }
+
+    fn add(&mut self, is_total: bool, item: T) -> Result<(), AllocError>
+        ensures detail { OnOk result (self.new.detail.items ≡ with_item self.old.detail.items (not is_total) item) }
+        ensures total { OnOk result (self.new.total.items ≡ with_item self.old.total.items is_total item) }
+    {
+        if is_total {
+            self.total.push(item)?;
+        } else {
+            self.detail.push(item)?;
+        }
+        Ok(())
     }
 }
 
@@ -101,11 +145,9 @@ impl Actions {
         ensures { acted_of result ≡ no_actions }
     {
         Actions {
-            detail: Vec::new(heap),
-            total: Vec::new(heap),
+            calculations: ByTime::new(heap),
             records: Vec::new(heap),
-            detail_lines: Vec::new(heap),
-            total_lines: Vec::new(heap),
+            lines: ByTime::new(heap),
             outputs: Vec::new(heap),
         }
     }
@@ -113,23 +155,16 @@ impl Actions {
     pub(crate) fn clear(&mut self)
         ensures { acted_of self.new ≡ no_actions }
     {
-        self.detail.clear();
-        self.total.clear();
+        self.calculations.clear();
         self.records.clear();
-        self.detail_lines.clear();
-        self.total_lines.clear();
+        self.lines.clear();
         self.outputs.clear();
     }
 
     fn add_calculation(&mut self, is_total: bool, c: Calculation) -> Result<(), AllocError>
         ensures { OnOk result (acted_of self.new ≡ add_calculation (acted_of self.old) is_total c) }
     {
-        if is_total {
-            self.total.push(c)?;
-        } else {
-            self.detail.push(c)?;
-        }
-        Ok(())
+        self.calculations.add(is_total, c)
     }
 
     fn add_line(&mut self, is_total: bool, record: OutputRecord) -> Result<(), AllocError>
@@ -137,21 +172,15 @@ impl Actions {
     {
         let place = self.records.len();
         self.records.push(record)?;
-        if is_total {
-            self.total_lines.push(place)?;
-        } else {
-            self.detail_lines.push(place)?;
-        }
-        Ok(())
+        self.lines.add(is_total, place)
     }
 
-    fn add_record(&mut self, k: usize, o: &OutputRecordCard) -> Result<(), AllocError>
-        requires { k < 256 }
-        ensures { OnOk result (acted_of self.new ≡ add_line (acted_of self.old) (is_total o.now.kind) (record_of k (length (acted_of self.old).outputs) o.now)) }
+    fn add_record(&mut self, place: u8, o: &OutputRecordCard) -> Result<(), AllocError>
+        ensures { OnOk result (acted_of self.new ≡ add_line (acted_of self.old) (is_total o.now.kind) (record_of place (length (acted_of self.old).outputs) o.now)) }
     {
         let first = self.outputs.len();
         let line = OutputRecord {
-            card: k + 1,
+            card: place as usize + 1,
             kind: o.kind,
             spacing: o.spacing,
             conditions: o.conditions,
@@ -167,23 +196,16 @@ impl Actions {
         Ok(())
     }
 
-    // What the card at place k adds to the actions before it.
-    pub(crate) fn act(
-        &mut self,
-        fields: &FieldTable,
-        k: usize,
-        card: &DeckCard,
-    ) -> Result<(), AllocError>
-        requires { k < 256 }
-        ensures { OnOk result (acted_of self.new ≡ act (fields_of fields.now) k (acted_of self.old) card.now) }
+    // What a card adds to the actions before it.
+    pub(crate) fn act(&mut self, lookup: &Lookup, card: &DeckCard) -> Result<(), AllocError>
+        ensures { OnOk result (acted_of self.new ≡ act (fields_of lookup.now.fields.now) lookup.now.place (acted_of self.old) card.now) }
     {
         match *card {
-            DeckCard::Calculation(c) => self.add_calculation(
-                c.level.is_some(),
-                calculation(fields, k, &c),
-            ),
-            DeckCard::OutputRecord(o) => self.add_record(k, &o),
-            DeckCard::OutputField(o) => self.add_output(output(fields, k, &o)),
+            DeckCard::Calculation(c) => {
+                self.add_calculation(c.level.is_some(), lookup.calculation(&c))
+            }
+            DeckCard::OutputRecord(o) => self.add_record(lookup.place, &o),
+            DeckCard::OutputField(o) => self.add_output(lookup.output(&o)),
             _ => Ok(()),
         }
     }

@@ -1,13 +1,18 @@
 use crate::kinds::{Calculation, Output, OutputRecord};
 
-// What the calculation and output cards of a deck ask for: calculations at detail and at total time, lines in deck
-// order, the places of those that are printed at detail and at total time, and the parts of all lines.
+// What is done at detail time, and what at total time.
+#[derive(Drop)]
+pub struct ByTime<T> {
+    pub detail: Vec<T>,
+    pub total: Vec<T>,
+}
+
+// What the calculation and output cards of a deck ask for: calculations by their time, lines in deck order, the places
+// of those lines by the time at which they are printed, and the parts of all lines.
 #[derive(Drop)]
 pub struct Actions {
-    pub detail: Vec<Calculation>,
-    pub total: Vec<Calculation>,
+    pub calculations: ByTime<Calculation>,
     pub records: Vec<OutputRecord>,
-    pub detail_lines: Vec<usize>,
-    pub total_lines: Vec<usize>,
+    pub lines: ByTime<usize>,
     pub outputs: Vec<Output>,
 }

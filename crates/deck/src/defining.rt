@@ -15,10 +15,8 @@ use std::alloc::{AllocError, Global};
 fn result_definition(name: Option<Name>, shape: Option<Shape>) -> Option<Definition>
     ensures { result ≡ result_definition name shape }
 {
-    match (name, shape) {
-        (Some(name), Some(shape)) => Some(Definition { name, shape }),
-        _ => None,
-    }
+    name.zip(shape)
+        .map(|(name, shape)| Definition { name, shape })
 }
 
 // The field that a card defines, if it defines one.
@@ -75,7 +73,7 @@ impl Definitions {
         ensures { result ≡ level_shape self.now.levels level }
     {
         let i = level.saturating_sub(100) as usize;
-        if i < 10 { self.levels[i] } else { None }
+        self.levels.get(i).copied().flatten()
     }
 
     fn define_level(&mut self, level: Option<Indicator>, shape: Shape)
@@ -86,7 +84,7 @@ impl Definitions {
     {
         if let Some(l) = level {
             let i = l.saturating_sub(100) as usize;
-            if i < 10 && self.levels[i].is_none() {
+            if let Some(None) = self.levels.get(i) {
                 self.levels[i] = Some(shape);
             }
         }

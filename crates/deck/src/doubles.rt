@@ -28,26 +28,6 @@ fn has_place(fields: &FieldTable, definition: Option<Definition>) -> bool
     }
 }
 
-// Of one kind, one length and the same decimals.
-fn are_alike(a: Shape, b: Shape) -> bool
-    ensures { result ≡ are_alike a b }
-{
-    match (a, b) {
-        (
-            Shape::Number {
-                digits: m,
-                decimals: d,
-            },
-            Shape::Number {
-                digits: n,
-                decimals: e,
-            },
-        ) => m == n && d == e,
-        (Shape::Text { length: m }, Shape::Text { length: n }) => m == n,
-        _ => false,
-    }
-}
-
 // Of one kind and one length.
 fn go_together(a: Shape, b: Shape) -> bool
     ensures { result ≡ go_together a b }
@@ -64,7 +44,7 @@ fn is_like(fields: &FieldTable, definition: Option<Definition>) -> bool
     ensures { result ≡ is_like (fields_of fields.now) definition }
 {
     match definition {
-        Some(d) => fields.find(&d.name).is_none() || are_alike(fields.shape(&d.name), d.shape),
+        Some(d) => fields.find(&d.name).is_none() || fields.shape(&d.name) == d.shape,
         None => true,
     }
 }
@@ -79,24 +59,14 @@ fn is_new_level(levels: &[Indicator], level: Option<Indicator>) -> bool
     }
 }
 
-fn fits_shape(first: Option<Shape>, shape: Shape) -> bool
-    ensures { result ≡ fits_shape first shape }
-{
-    match first {
-        Some(t) => go_together(t, shape),
-        None => true,
-    }
-}
-
 impl Definitions {
     // A control field goes together with the first one of its level.
     fn fits_level(&self, level: Option<Indicator>, shape: Shape) -> bool
         ensures { result ≡ fits_level self.now.levels level shape }
     {
-        match level {
-            Some(l) => fits_shape(self.level_shape(l), shape),
-            None => true,
-        }
+        level
+            .and_then(|l| self.level_shape(l))
+            .is_none_or(|first| go_together(first, shape))
     }
 
     // A field or a record type that finds no place.

@@ -1,8 +1,12 @@
+ghost use Rattle.std.specs.Prelude.{◌≡◌};
+ghost use Rattle.deck.specs.declared.kinds.ReadError.TheVariants.{NoMemory};
+
 use cards::kinds::{Codes, Conditions, LineKind, Shape, Told};
 use columns::kinds::{Indicator, Literal, Name};
 use images::EditCode;
 use operations::Operation;
 use rules::Refusal;
+use std::alloc::AllocError;
 
 // A record type: the indicator that tells it, the codes that identify its cards, and the place of its first field
 // among the inputs. Its fields go up to the first of the next type.
@@ -23,13 +27,20 @@ pub struct Input {
     pub told: Told,
 }
 
+// A part of the deck's text.
+#[derive(Clone, Copy)]
+pub struct Part {
+    pub at: usize,
+    pub length: usize,
+}
+
 // The second factor of a calculation: a field by its place, a number, or a part of the deck's text.
 #[derive(Clone, Copy)]
 pub enum Operand {
     Absent,
     Field(usize),
     Number(Literal),
-    Text { at: usize, length: usize },
+    Text(Part),
 }
 
 // A calculation. Its card number is told where it stops a run.
@@ -65,10 +76,7 @@ pub enum Source {
         edit: Option<EditCode>,
         blank_after: bool,
     },
-    Constant {
-        at: usize,
-        length: usize,
-    },
+    Constant(Part),
 }
 
 // A part of a line: what it shows, and the column in which that ends.
@@ -92,6 +100,14 @@ pub struct Breach {
 pub enum ReadError {
     Refused(Breach),
     NoMemory,
+}
+
+impl From<AllocError> for ReadError {
+    ghost from_gives = { λ _ e. e ≡ NoMemory };
+
+    fn from(_e: AllocError) -> ReadError {
+        ReadError::NoMemory
+    }
 }
 
 // A field's name with its shape, as one card defines it.

@@ -13,5 +13,6 @@ mod defining;
 pub mod definitions;
 mod doubles;
 pub mod kinds;
+mod parts;
 mod reading;
 mod seen;

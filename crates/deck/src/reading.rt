@@ -1,12 +1,13 @@
 ghost use Rattle.std.specs.Prelude.{◌≡◌, ℕ, suc, ◌+◌, ◌-◌, ◌*◌, ◌/◌, ◌<◌, ◌≤◌, false, List, [], ◌∷◌, ◌++◌, map, length};
 ghost use Rattle.rules.specs.Rules.{first};
 ghost use Rattle.deck.specs.Acted.{acted_of, no_actions};
-ghost use Rattle.deck.specs.Decks.{card_at, count, numbered, is_cut, cut, first_telling, second_telling, first_at, second_at, second_sweep, defined_by, seen_by, acted_by, fields_in, rules, empty_table, table_of, deck_of, ReadAs, numbers_of};
+ghost use Rattle.deck.specs.Decks.{cards, count, numbered, is_cut, cut, first_telling, second_telling, first_at, second_at, second_sweep, defined_by, seen_by, acted_by, fields_in, rules, empty_table, table_of, deck_of, ReadAs, numbers_of};
 ghost use Rattle.deck.specs.Defined.{defined_of, nothing, before_of, none_before};
 ghost use Rattle.fields.specs.Fields.{fields_of};
 ghost use Rattle.deck.specs.Laws.{ReadKeeps};
-ghost use Rattle.deck.specs.Steps.{TakenIn, AllTakenIn, LookedUp, AllLookedUp, Filled};
+ghost use Rattle.deck.specs.Steps.{RefusedBy, Takes, AllTakenIn, LooksUp, AllLookedUp, Filled};
 
+use crate::acting::Lookup;
 use crate::actions::Actions;
 use crate::deck::Deck;
 use crate::definitions::Definitions;
@@ -19,43 +20,43 @@ use meanings::card_of;
 use rules::{Refusal, first_of};
 use std::alloc::{AllocError, Global};
 
-// The card at a place.
-fn card_at(text: &[u8], k: usize) -> Card
-    requires { 80 * k + 80 ≤ length text.now }
-    ensures { result.columns ≡ card_at text.now k }
+// The cards of a deck, each by its columns.
+fn cards_of(text: &[u8]) -> &[[u8; 80]]
+    ensures { result.now ≡ cards text.now }
 {
-    let mut columns = [b' '; 80];
-    columns.copy_from_slice(&text[80 * k..80 * k + 80]);
-    Card { columns }
+    text.as_chunks().0
 }
 
 // The card's number is added to its breach.
-fn number(k: usize, breach: Option<rules::Breach>) -> Option<Breach>
-    requires { k < 256 }
-    ensures { result ≡ numbered k breach }
+fn number(place: u8, breach: Option<rules::Breach>) -> Option<Breach>
+    ensures { result ≡ numbered place breach }
 {
-    match breach {
-        Some((refusal, column)) => Some(Breach {
-            refusal,
-            card: k + 1,
-            column,
-        }),
-        None => None,
-    }
+    breach.map(|(refusal, column)| Breach {
+        refusal,
+        card: place as usize + 1,
+        column,
+    })
 }
 
 // A deck of no card, of a rest that is no card, or of over 256 cards.
 fn tell_size(text: &[u8]) -> Option<Breach>
     ensures { result ≡ cut text.now }
 {
-    if text.len() == 0 || text.len() % 80 != 0 || text.len() > 20480 {
-        Some(Breach {
-            refusal: Refusal::CutDeck,
-            card: 0,
-            column: 0,
-        })
-    } else {
-        None
+    let is_cut = text.is_empty() || text.len() % 80 != 0 || text.len() > 20480;
+    is_cut.then_some(Breach {
+        refusal: Refusal::CutDeck,
+        card: 0,
+        column: 0,
+    })
+}
+
+// A deck that tells a breach is refused.
+fn refuse(told: Option<Breach>) -> Result<(), ReadError>
+    ensures { RefusedBy told result }
+{
+    match told {
+        Some(breach) => Err(ReadError::Refused(breach)),
+        None => Ok(()),
     }
 }
 
@@ -72,22 +73,14 @@ impl Definitions {
         ])
     }
 
-    // The card at a place is taken in, unless it tells something.
-    fn take_in(&mut self, seen: &mut Seen, text: &[u8], k: usize) -> Result<(), ReadError>
-        requires inside { 80 * k + 80 ≤ length text.now }
-        requires few { k < 256 }
-        requires defined { defined_of self.old ≡ defined_by text.now k }
-        requires before { before_of seen.old ≡ seen_by text.now k }
-        ensures { TakenIn text.now k result (defined_of self.new) (before_of seen.new) }
+    // A card at a place is taken in, unless it tells something.
+    fn take_in(&mut self, seen: &mut Seen, place: u8, card: &Card) -> Result<(), ReadError>
+        ensures { Takes (defined_of self.old) (before_of seen.old) place card.now.columns result (defined_of self.new) (before_of seen.new) }
     {
-        let card = card_at(text, k);
-        if let Some(breach) = number(k, self.tell(seen, &card)) {
-            return Err(ReadError::Refused(breach));
-        }
-        let read = card_of(&card);
-        if self.define(&read).is_err() || seen.see(rank(kind_of(&card), &card), &read).is_err() {
-            return Err(ReadError::NoMemory);
-        }
+        refuse(number(place, self.tell(seen, card)))?;
+        let read = card_of(card);
+        self.define(&read)?;
+        seen.see(rank(kind_of(card), card), &read)?;
         Ok(())
     }
 
@@ -98,30 +91,23 @@ impl Definitions {
         ensures { AllTakenIn text.now result (defined_of self.new) }
     {
         let mut seen = Seen::new(heap);
-        for k in 0..text.len() / 80 {
-            self.take_in(&mut seen, text, k)?;
+        let cards = cards_of(text);
+        for (k, columns) in cards.iter().enumerate() {
+            self.take_in(&mut seen, k as u8, &Card { columns: *columns })?;
         }
         Ok(())
     }
 }
 
 impl Actions {
-    // The names of the card at a place are looked up, unless it tells something.
-    fn look_up(&mut self, fields: &FieldTable, text: &[u8], k: usize) -> Result<(), ReadError>
-        requires inside { 80 * k + 80 ≤ length text.now }
-        requires few { k < 256 }
-        requires fields { fields_of fields.now ≡ fields_in text.now }
-        requires acted { acted_of self.old ≡ acted_by text.now k }
-        ensures { LookedUp text.now k result (acted_of self.new) }
+    // The names of a card are looked up, unless it tells something.
+    fn look_up(&mut self, lookup: &Lookup, card: &Card) -> Result<(), ReadError>
+        ensures { LooksUp (fields_of lookup.now.fields.now) (acted_of self.old) lookup.now.place card.now.columns result (acted_of self.new) }
     {
-        let card = card_of(&card_at(text, k));
-        if let Some(breach) = number(k, uses::tell(fields, &card)) {
-            return Err(ReadError::Refused(breach));
-        }
-        match self.act(fields, k, &card) {
-            Ok(()) => Ok(()),
-            Err(_) => Err(ReadError::NoMemory),
-        }
+        let read = card_of(card);
+        refuse(number(lookup.place, uses::tell(lookup.fields, &read)))?;
+        self.act(lookup, &read)?;
+        Ok(())
     }
 
     // The second sweep over the cards.
@@ -131,8 +117,13 @@ impl Actions {
         requires whole { is_cut text.now ≡ false }
         ensures { AllLookedUp text.now result (acted_of self.new) }
     {
-        for k in 0..text.len() / 80 {
-            self.look_up(fields, text, k)?;
+        let cards = cards_of(text);
+        for (k, columns) in cards.iter().enumerate() {
+            let lookup = Lookup {
+                fields,
+                place: k as u8,
+            };
+            self.look_up(&lookup, &Card { columns: *columns })?;
         }
         Ok(())
     }
@@ -181,15 +172,11 @@ impl Deck {
         ensures answer { Filled text.now result (table_of self.new) }
         ensures keeps { ReadKeeps text.now result }
     {
-        if let Some(breach) = tell_size(text) {
-            return Err(ReadError::Refused(breach));
-        }
+        refuse(tell_size(text))?;
         self.definitions.take_in_all(heap, text)?;
         self.actions.look_up_all(&self.definitions.fields, text)?;
-        match self.text.extend_from_slice(text) {
-            Ok(()) => Ok(()),
-            Err(_) => Err(ReadError::NoMemory),
-        }
+        self.text.extend_from_slice(text)?;
+        Ok(())
     }
 
     // Reads a deck. The table then holds it or, where it is refused or memory is wanting, nothing.

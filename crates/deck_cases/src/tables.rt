@@ -4,7 +4,7 @@ use cards::kinds::{Code, Shape};
 use deck::actions::Actions;
 use deck::deck::Deck;
 use deck::definitions::Definitions;
-use deck::kinds::{Calculation, Input, Operand, Output, OutputRecord, RecordType, Source};
+use deck::kinds::{Calculation, Input, Operand, Output, OutputRecord, Part, RecordType, Source};
 use fields::FieldTable;
 use shown::{Cell, CodeText, PrintedText, Row, SizeText};
 use std::io;
@@ -15,8 +15,8 @@ pub fn show_deck(rt: &HostRuntime, deck: &Deck) -> io::Result<()> {
     show_fields(rt, &deck.definitions.fields)?;
     show_types(rt, &deck.definitions)?;
     let text = deck.text.as_slice();
-    show_calculations(rt, text, deck.actions.detail.as_slice())?;
-    show_calculations(rt, text, deck.actions.total.as_slice())?;
+    show_calculations(rt, text, deck.actions.calculations.detail.as_slice())?;
+    show_calculations(rt, text, deck.actions.calculations.total.as_slice())?;
     show_lines(rt, text, &deck.actions)
 }
 
@@ -36,17 +36,11 @@ fn size<'a>(shape: Shape) -> Cell<'a> {
     }
 }
 
-// The items from a place on and before another, as far as there are any.
-fn between<T>(all: &[T], first: usize, end: usize) -> &[T] {
-    let end = end.min(all.len());
-    &all[first.min(end)..end]
-}
-
 // Each record type, and behind it its inputs.
 fn show_types(rt: &HostRuntime, d: &Definitions) -> io::Result<()> {
     for (i, t) in d.types.iter().enumerate() {
         show_type(rt, t)?;
-        show_inputs(rt, inputs_of(d, i, t.first))?;
+        show_inputs(rt, d.inputs_of(i))?;
     }
     Ok(())
 }
@@ -70,15 +64,6 @@ fn code<'a>(code: Option<Code>) -> Cell<'a> {
             character: c.character,
         }),
     }
-}
-
-// The inputs of a record type: those up to the first of the next type.
-fn inputs_of(d: &Definitions, i: usize, first: usize) -> &[Input] {
-    let end = match d.types.get(i.saturating_add(1)) {
-        Some(next) => next.first,
-        None => d.inputs.len(),
-    };
-    between(d.inputs.as_slice(), first, end)
 }
 
 fn show_inputs(rt: &HostRuntime, inputs: &[Input]) -> io::Result<()> {
@@ -127,20 +112,21 @@ fn factor(text: &[u8], factor: Operand) -> Cell<'_> {
         Operand::Absent => Cell::Word("-"),
         Operand::Field(i) => Cell::Count(i),
         Operand::Number(literal) => Cell::Literal(literal),
-        Operand::Text { at, length } => quoted(text, at, length),
+        Operand::Text(part) => quoted(text, part),
     }
 }
 
 // A part of the deck's text.
-fn quoted(text: &[u8], at: usize, length: usize) -> Cell<'_> {
-    Cell::Quoted(between(text, at, at.saturating_add(length)))
+fn quoted(text: &[u8], part: Part) -> Cell<'_> {
+    let end = part.at.saturating_add(part.length);
+    Cell::Quoted(text.get(part.at..end).unwrap_or(&[]))
 }
 
 // Each line, and behind it its parts.
 fn show_lines(rt: &HostRuntime, text: &[u8], a: &Actions) -> io::Result<()> {
     for (i, r) in a.records.iter().enumerate() {
         show_line(rt, r)?;
-        show_outputs(rt, text, outputs_of(a, i, r.first))?;
+        show_outputs(rt, text, a.outputs_of(i))?;
     }
     Ok(())
 }
@@ -155,15 +141,6 @@ fn show_line(rt: &HostRuntime, r: &OutputRecord) -> io::Result<()> {
         Cell::Condition(r.conditions.second),
         Cell::Condition(r.conditions.third),
     ]))
-}
-
-// The parts of a line: those up to the first of the next line.
-fn outputs_of(a: &Actions, i: usize, first: usize) -> &[Output] {
-    let end = match a.records.get(i.saturating_add(1)) {
-        Some(next) => next.first,
-        None => a.outputs.len(),
-    };
-    between(a.outputs.as_slice(), first, end)
 }
 
 fn show_outputs(rt: &HostRuntime, text: &[u8], outputs: &[Output]) -> io::Result<()> {
@@ -191,6 +168,6 @@ fn source(text: &[u8], source: Source) -> Cell<'_> {
             edit: edit(code),
             clears: flag(blank_after, "B"),
         }),
-        Source::Constant { at, length } => quoted(text, at, length),
+        Source::Constant(part) => quoted(text, part),
     }
 }

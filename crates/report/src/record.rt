@@ -22,8 +22,8 @@ fn show_cards(rt: &HostRuntime, deck: &Deck) -> io::Result<()> {
         Cell::Count(deck.text.len() / 80),
         Cell::Count(deck.definitions.types.len()),
         Cell::Count(deck.definitions.inputs.len()),
-        Cell::Count(deck.actions.detail.len()),
-        Cell::Count(deck.actions.total.len()),
+        Cell::Count(deck.actions.calculations.detail.len()),
+        Cell::Count(deck.actions.calculations.total.len()),
         Cell::Count(deck.actions.records.len()),
         Cell::Count(deck.actions.outputs.len()),
     ]))
@@ -35,18 +35,10 @@ fn show_types(rt: &HostRuntime, d: &Definitions) -> io::Result<()> {
         rt.println(Row(&[
             Cell::Word("type"),
             Cell::Indicator(Some(t.indicator)),
-            Cell::Count(end_of(d, i).saturating_sub(t.first)),
+            Cell::Count(d.inputs_of(i).len()),
         ]))?;
     }
     Ok(())
-}
-
-// The place behind the fields of a record type: that of the next type's first field.
-fn end_of(d: &Definitions, i: usize) -> usize {
-    match d.types.get(i.saturating_add(1)) {
-        Some(next) => next.first,
-        None => d.inputs.len(),
-    }
 }
 
 // Each field with its digits and decimals, or its length.
