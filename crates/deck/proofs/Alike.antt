@@ -1,25 +1,24 @@
 -- All cards of an accepted deck that define one name define it alike.
-use Rattle.std.proofs.Common.{◌≡◌, ℕ, zero, suc, ◌+◌, ◌<◌, Bool, true, false, cond, not, ◌&&◌, ◌||◌, ◌⊎◌, List, [], ◌∷◌, ◌++◌, length, is_some, Some, None, Option, unwrap_or, sym, refl, ap, ◌∙◌, subst, inl, inr, le_of_suc-le-suc, not-suc-le-zero, eq-or-lt_of_le, arith}
+use Rattle.std.proofs.Common.{◌≡◌, ℕ, zero, suc, ◌+◌, ◌<◌, Bool, true, false, cond, not, ◌||◌, ◌⊎◌, List, [], ◌∷◌, ◌++◌, length, is_some, Some, None, Option, unwrap_or, sym, refl, ap, ◌∙◌, subst, inl, inr, le_of_suc-le-suc, not-suc-le-zero, eq-or-lt_of_le, arith}
 use Rattle.std.specs.Option.{option_map}
 use Rattle.std.specs.Str.{bytes_eq}
 use Rattle.std.proofs.lemmas.Slice.Eq.{bytes_eq-Decides}
 use Rattle.std.proofs.lemmas.List.{get_or_append_left, get_or_push, length_push}
 use Rattle.std.proofs.lemmas.Bool.Decides.{nat_tests}
 use Rattle.rules.specs.Finding.{first_of, place_of_name}
-use Rattle.rules.specs.Rules.{rule}
 use Rattle.rules.specs.declared.refusal.Refusal.TheVariants.{Double}
 use Rattle.cards.specs.declared.kinds.Shape.{Shape}
 use Rattle.cards.specs.declared.kinds.Shape.TheVariants.{Number, Text}
 use Rattle.cards.specs.declared.kinds.DeckCard.{DeckCard}
-use Rattle.cards.specs.declared.kinds.DeckCard.TheVariants.{Comment, Record, Field, Calculation, OutputRecord, OutputField}
+use Rattle.cards.specs.declared.kinds.DeckCard.TheVariants.{Comment, Field, Calculation}
 use Rattle.fields.specs.Fields.{Fields, is_known, shape_at, shape_of, entered}
 use Rattle.deck.specs.declared.kinds.Definition.{Definition}
 use Rattle.deck.specs.Decks.{count, defined_by, seen_by}
 use Rattle.deck.specs.Defined.{Defined, Before, define, definition_of, with_definition}
 use Rattle.deck.specs.Laws.{card_in, Accepted}
-use Rattle.deck.specs.Rules.{are_alike, is_like, is_new_level, fits_level, doubles}
-use Rattle.deck.proofs.Apart.{left, doubles_kept, found_more, found_last}
-use Rattle.deck.proofs.Resolved.{not_false, passes, kept_head, kept}
+use Rattle.deck.specs.Rules.{are_alike, is_like, doubles}
+use Rattle.deck.proofs.Apart.{single_field, doubles_kept, found_more, found_last}
+use Rattle.deck.proofs.Resolved.{not_false, passes, kept}
 
 -- as many shapes as names
 abbrev Level : Fields → Type 0
@@ -105,11 +104,7 @@ alike_join (Text m) (Text n) (Text p) h k = grind (arith, nat_tests)
 -- the fields that cards define
 pub fields_by : (d : Defined) (c : DeckCard) → (define d c).fields ≡ with_definition d.fields (definition_of c)
 fields_by d Comment = refl
-fields_by d (Record r) = refl
-fields_by d (Field f) = refl
-fields_by d (Calculation c) = refl
-fields_by d (OutputRecord o) = refl
-fields_by d (OutputField o) = refl
+fields_by d _ = refl
 
 level_with : (f : Fields) (o : Option Definition) → Level f → Level (with_definition f o)
 level_with f None l = l
@@ -122,16 +117,9 @@ level_by text (suc k) =
 
 -- a card that is no double defines its field as it is known
 like_kept : (d : Defined) (b : Before) (c : DeckCard) → doubles d b c ≡ None → is_like d.fields (definition_of c) ≡ true
-like_kept d b Comment e = refl
-like_kept d b (Record r) e = refl
-like_kept d b (Field f) e =
-    let like = is_like d.fields (definition_of (Field f)) in
-    let new = not (is_some (place_of_name b.names f.name)) in
-    let level = is_new_level b.levels f.level && fits_level d.levels f.level f.shape in
-    left like new (kept Double 53 (like && new) (kept_head (rule Double 53 (like && new)) (rule Double 59 level ∷ []) e))
+like_kept d b (Field f) e = (single_field d b f e).like
 like_kept d b (Calculation c) e = kept Double 43 (is_like d.fields (definition_of (Calculation c))) e
-like_kept d b (OutputRecord o) e = refl
-like_kept d b (OutputField o) e = refl
+like_kept d b _ e = refl
 
 like_known : (f : Fields) (d : Definition) → is_known f d.name ≡ true → is_like f (Some d) ≡ true → are_alike (shape_of f d.name) d.shape ≡ true
 like_known f d h l = at (is_known f d.name) h l

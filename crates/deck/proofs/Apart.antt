@@ -5,14 +5,14 @@ use Rattle.std.specs.Str.{bytes_eq}
 use Rattle.std.proofs.lemmas.List.FromFn.{get_or-map-range_with_len, length-map-range_with_len}
 use Rattle.std.proofs.lemmas.Slice.Eq.{bytes_eq-Decides}
 use Rattle.std.proofs.lemmas.List.{get_or_append_left}
-use Rattle.std.proofs.lemmas.Bool.Decides.{nat_tests}
+use Rattle.std.proofs.lemmas.Bool.{both_ways, not-true, eq-eqb, and_parts}
 use Rattle.rules.specs.Finding.{first_of, place_of_name, place_of_indicator}
 use Rattle.rules.specs.Rules.{rule, first}
 use Rattle.rules.specs.declared.refusal.Refusal.TheVariants.{Double}
 use Rattle.cards.specs.declared.kinds.RecordCard.{RecordCard}
 use Rattle.cards.specs.declared.kinds.FieldCard.{FieldCard}
 use Rattle.cards.specs.declared.kinds.DeckCard.{DeckCard}
-use Rattle.cards.specs.declared.kinds.DeckCard.TheVariants.{Comment, Record, Field, Calculation, OutputRecord, OutputField}
+use Rattle.cards.specs.declared.kinds.DeckCard.TheVariants.{Record, Field}
 use Rattle.cards.specs.Layouts.{layout_of}
 use Rattle.cards.specs.Punches as punches
 use Rattle.cards.specs.Punches.{kind_of}
@@ -85,39 +85,26 @@ module _ {X : Type 0} (t : X → Bool) (items : Before → List X) (P : DeckCard
 
 -- the indicators of record cards, and in a record type the names and levels of its fields
 indicator_still : (n : ℕ) (b : Before) (rank : ℕ) (c : DeckCard) → Unit {0} → is_some (place_of_indicator b.indicators n) ≡ true → is_some (place_of_indicator (see b rank c).indicators n) ≡ true
-indicator_still n b rank Comment u h = h
 indicator_still n b rank (Record r) u h = found_more (λ y. eqb y n) b.indicators (r.indicator ∷ []) h
-indicator_still n b rank (Field f) u h = h
-indicator_still n b rank (Calculation c) u h = h
-indicator_still n b rank (OutputRecord o) u h = h
-indicator_still n b rank (OutputField o) u h = h
+indicator_still n b rank _ u h = h
 
 abbrev NoRecord : DeckCard → Type 0
 NoRecord c = (r : RecordCard) → c ≡ Record r → ⊥
 
 name_still : (n : List ℕ) (b : Before) (rank : ℕ) (c : DeckCard) → NoRecord c → is_some (place_of_name b.names n) ≡ true → is_some (place_of_name (see b rank c).names n) ≡ true
-name_still n b rank Comment u h = h
 name_still n b rank (Record r) u h = absurd (u r refl)
 name_still n b rank (Field f) u h = found_more (λ y. bytes_eq y n) b.names (f.name ∷ []) h
-name_still n b rank (Calculation c) u h = h
-name_still n b rank (OutputRecord o) u h = h
-name_still n b rank (OutputField o) u h = h
+name_still n b rank _ u h = h
 
 level_still : (n : ℕ) (b : Before) (rank : ℕ) (c : DeckCard) → NoRecord c → is_some (place_of_indicator b.levels n) ≡ true → is_some (place_of_indicator (see b rank c).levels n) ≡ true
-level_still n b rank Comment u h = h
 level_still n b rank (Record r) u h = absurd (u r refl)
 level_still n b rank (Field f) u h = found_more (λ y. eqb y n) b.levels (option_to_list f.level) h
-level_still n b rank (Calculation c) u h = h
-level_still n b rank (OutputRecord o) u h = h
-level_still n b rank (OutputField o) u h = h
-
-same_number : (n : ℕ) → eqb n n ≡ true
-same_number n = grind (arith, nat_tests)
+level_still n b rank _ u h = h
 
 indicator_seen : (text : List ℕ) (i j : ℕ) → i < j → (r : RecordCard) → card_in text i ≡ Record r → is_some (place_of_indicator (seen_by text j).indicators r.indicator) ≡ true
 indicator_seen text i j h r e =
     seen (λ y. eqb y r.indicator) (λ b. b.indicators) (λ _. Unit {0}) (indicator_still r.indicator) text i
-    (λ b rank. subst (λ (c : DeckCard). is_some (place_of_indicator (see b rank c).indicators r.indicator) ≡ true) (sym e) (found_last (λ y. eqb y r.indicator) b.indicators r.indicator (same_number r.indicator)))
+    (λ b rank. subst (λ (c : DeckCard). is_some (place_of_indicator (see b rank c).indicators r.indicator) ≡ true) (sym e) (found_last (λ y. eqb y r.indicator) b.indicators r.indicator (eq-eqb r.indicator r.indicator refl)))
     j h (λ k m n. tt)
 
 name_seen : (text : List ℕ) (i j : ℕ) → i < j → SameType text i j → (f : FieldCard) → card_in text i ≡ Field f → is_some (place_of_name (seen_by text j).names f.name) ≡ true
@@ -128,7 +115,7 @@ name_seen text i j h s f e =
 
 level_new : (b : Before) (rank l : ℕ) (f : FieldCard) → f.level ≡ Some l → is_some (place_of_indicator (see b rank (Field f)).levels l) ≡ true
 level_new b rank l f e =
-    subst (λ (o : Option ℕ). is_some (place_of_indicator (b.levels ++ option_to_list o) l) ≡ true) (sym e) (found_last (λ y. eqb y l) b.levels l (same_number l))
+    subst (λ (o : Option ℕ). is_some (place_of_indicator (b.levels ++ option_to_list o) l) ≡ true) (sym e) (found_last (λ y. eqb y l) b.levels l (eq-eqb l l refl))
 
 level_seen : (text : List ℕ) (i j : ℕ) → i < j → SameType text i j → (f : FieldCard) → card_in text i ≡ Field f → (l : ℕ) → f.level ≡ Some l → is_some (place_of_indicator (seen_by text j).levels l) ≡ true
 level_seen text i j h s f e l v =
@@ -136,48 +123,37 @@ level_seen text i j h s f e l v =
     (λ b rank. subst (λ (c : DeckCard). is_some (place_of_indicator (see b rank c).levels l) ≡ true) (sym e) (level_new b rank l f v))
     j h s
 
-both : (b : Bool) → not b ≡ true → b ≡ true → ⊥
-both true h k = not_false h
-both false h k = not_false k
-
 pub types_apart : (text : List ℕ) → Accepted text → (i j : ℕ) → i < j → j < count text → (r s : RecordCard) → card_in text i ≡ Record r → card_in text j ≡ Record s → r.indicator ≡ s.indicator → ⊥
 types_apart text a i j h l r s ci cj e =
     let d = defined_by text j in
     let b = seen_by text j in
     let told = subst (λ (c : DeckCard). doubles d b c ≡ None) cj (doubles_kept text a j l) in
-    both (is_some (place_of_indicator b.indicators s.indicator))
-    (kept Double 19 (not (is_some (place_of_indicator b.indicators s.indicator))) told)
+    let seen_before = is_some (place_of_indicator b.indicators s.indicator) in
+    both_ways seen_before (not-true seen_before (kept Double 19 (not seen_before) told))
     (subst (λ (n : ℕ). is_some (place_of_indicator b.indicators n) ≡ true) e (indicator_seen text i j h r ci))
 
-pub left : (a b : Bool) → (a && b) ≡ true → a ≡ true
-left true b h = refl
-left false b h = h
+-- a field card that is no double defines its field as it is known, has a new name and a new level, and fits its level
+pub record SingleField (d : Defined) (b : Before) (g : FieldCard) : Type 0 where
+  pub like : is_like d.fields (definition_of (Field g)) ≡ true
+  pub new_name : not (is_some (place_of_name b.names g.name)) ≡ true
+  pub new_level : is_new_level b.levels g.level ≡ true
+  pub fits : fits_level d.levels g.level g.shape ≡ true
 
-pub right : (a b : Bool) → (a && b) ≡ true → b ≡ true
-right true b h = h
-right false b h = not_false h
-
--- a field card that is no double has a new name, and a new level
-new_name : (d : Defined) (b : Before) (g : FieldCard) → doubles d b (Field g) ≡ None → not (is_some (place_of_name b.names g.name)) ≡ true
-new_name d b g e =
-    let like = is_like d.fields (definition_of (Field g)) in
-    let new = not (is_some (place_of_name b.names g.name)) in
-    let level = is_new_level b.levels g.level && fits_level d.levels g.level g.shape in
-    right like new (kept Double 53 (like && new) (kept_head (rule Double 53 (like && new)) (rule Double 59 level ∷ []) e))
-
-new_level : (d : Defined) (b : Before) (g : FieldCard) → doubles d b (Field g) ≡ None → is_new_level b.levels g.level ≡ true
-new_level d b g e =
+pub single_field : (d : Defined) (b : Before) (g : FieldCard) → doubles d b (Field g) ≡ None → SingleField d b g
+single_field d b g e =
     let name = is_like d.fields (definition_of (Field g)) && not (is_some (place_of_name b.names g.name)) in
-    let new = is_new_level b.levels g.level in
-    let fits = fits_level d.levels g.level g.shape in
-    left new fits (kept Double 59 (new && fits) (kept_head (rule Double 59 (new && fits)) [] (kept_rest (rule Double 53 name) (rule Double 59 (new && fits) ∷ []) e)))
+    let level = is_new_level b.levels g.level && fits_level d.levels g.level g.shape in
+    let n = and_parts (is_like d.fields (definition_of (Field g))) _ (kept Double 53 name (kept_head (rule Double 53 name) (rule Double 59 level ∷ []) e)) in
+    let l = and_parts (is_new_level b.levels g.level) _ (kept Double 59 level (kept_head (rule Double 59 level) [] (kept_rest (rule Double 53 name) (rule Double 59 level ∷ []) e))) in
+    record { like = n.0; new_name = n.1; new_level = l.0; fits = l.1 }
 
 pub names_once : (text : List ℕ) → Accepted text → (i j : ℕ) → i < j → j < count text → SameType text i j → (f g : FieldCard) → card_in text i ≡ Field f → card_in text j ≡ Field g → f.name ≡ g.name → ⊥
 names_once text a i j h l s f g ci cj e =
     let d = defined_by text j in
     let b = seen_by text j in
     let told = subst (λ (c : DeckCard). doubles d b c ≡ None) cj (doubles_kept text a j l) in
-    both (is_some (place_of_name b.names g.name)) (new_name d b g told)
+    let seen_before = is_some (place_of_name b.names g.name) in
+    both_ways seen_before (not-true seen_before (single_field d b g told).new_name)
     (subst (λ (n : List ℕ). is_some (place_of_name b.names n) ≡ true) e (name_seen text i j h s f ci))
 
 pub levels_once : (text : List ℕ) → Accepted text → (i j : ℕ) → i < j → j < count text → SameType text i j → (f g : FieldCard) → card_in text i ≡ Field f → card_in text j ≡ Field g → (n : ℕ) → f.level ≡ Some n → g.level ≡ Some n → ⊥
@@ -185,5 +161,6 @@ levels_once text a i j h l s f g ci cj n u v =
     let d = defined_by text j in
     let b = seen_by text j in
     let told = subst (λ (c : DeckCard). doubles d b c ≡ None) cj (doubles_kept text a j l) in
-    both (is_some (place_of_indicator b.levels n)) (subst (λ (o : Option ℕ). is_new_level b.levels o ≡ true) v (new_level d b g told))
+    let seen_before = is_some (place_of_indicator b.levels n) in
+    both_ways seen_before (not-true seen_before (subst (λ (o : Option ℕ). is_new_level b.levels o ≡ true) v (single_field d b g told).new_level))
     (level_seen text i j h s f ci n u)

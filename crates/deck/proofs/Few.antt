@@ -4,7 +4,7 @@ use Rattle.std.proofs.lemmas.List.{length_push}
 use Rattle.std.proofs.lemmas.Bool.Decides.{nat_tests}
 use Rattle.rules.specs.declared.refusal.Refusal.TheVariants.{TableFull}
 use Rattle.cards.specs.declared.kinds.DeckCard.{DeckCard}
-use Rattle.cards.specs.declared.kinds.DeckCard.TheVariants.{Comment, Record, Field, Calculation, OutputRecord, OutputField}
+use Rattle.cards.specs.declared.kinds.DeckCard.TheVariants.{Record, Field, Calculation}
 use Rattle.fields.specs.Fields.{Fields, is_known}
 use Rattle.deck.specs.declared.kinds.Definition.{Definition}
 use Rattle.deck.specs.Decks.{count, fields_in, defined_by, seen_by}
@@ -17,12 +17,9 @@ use Rattle.deck.proofs.Resolved.{kept}
 
 -- a card that tells no full table finds a place for its field
 place_kept : (d : Defined) (b : Before) (c : DeckCard) → full d b c ≡ None → has_place d.fields (definition_of c) ≡ true
-place_kept d b Comment e = refl
-place_kept d b (Record r) e = refl
 place_kept d b (Field f) e = kept TableFull 0 (has_place d.fields (definition_of (Field f))) e
 place_kept d b (Calculation c) e = kept TableFull 0 (has_place d.fields (definition_of (Calculation c))) e
-place_kept d b (OutputRecord o) e = refl
-place_kept d b (OutputField o) e = refl
+place_kept d b _ e = refl
 
 few_with : (f : Fields) (o : Option Definition) → length f.names ≤ 64 → has_place f o ≡ true → length (with_definition f o).names ≤ 64
 few_with f None h k = h
@@ -46,27 +43,19 @@ few_fields text a = fields_few text a (count text) (le_refl (count text))
 
 -- as many record types are defined as record cards are seen
 same_by : (d : Defined) (b : Before) (rank : ℕ) (c : DeckCard) → length d.types ≡ length b.indicators → length (define d c).types ≡ length (see b rank c).indicators
-same_by d b rank Comment h = h
 same_by d b rank (Record r) h = length_push d.types (type_of (length d.inputs) r) ∙ ap (λ (n : ℕ). n + 1) h ∙ sym (length_push b.indicators r.indicator)
-same_by d b rank (Field f) h = h
-same_by d b rank (Calculation c) h = h
-same_by d b rank (OutputRecord o) h = h
-same_by d b rank (OutputField o) h = h
+same_by d b rank _ h = h
 
 same : (text : List ℕ) (k : ℕ) → length (defined_by text k).types ≡ length (seen_by text k).indicators
 same text zero = refl
 same text (suc k) = same_by (defined_by text k) (seen_by text k) (rank_at text k) (card_in text k) (same text k)
 
 few_by : (d : Defined) (b : Before) (rank : ℕ) (c : DeckCard) → full d b c ≡ None → length b.indicators ≤ 16 → length (see b rank c).indicators ≤ 16
-few_by d b rank Comment e h = h
 few_by d b rank (Record r) e h =
     let test = kept TableFull 0 (ltb (length b.indicators) 16) e in
     let less : length b.indicators < 16 = grind (arith, nat_tests) in
     subst (λ (n : ℕ). n ≤ 16) (sym (length_push b.indicators r.indicator)) (omega (arith, less))
-few_by d b rank (Field f) e h = h
-few_by d b rank (Calculation c) e h = h
-few_by d b rank (OutputRecord o) e h = h
-few_by d b rank (OutputField o) e h = h
+few_by d b rank _ e h = h
 
 types_few : (text : List ℕ) → Accepted text → (k : ℕ) → k ≤ count text → length (seen_by text k).indicators ≤ 16
 types_few text a zero h = lit≤ tt

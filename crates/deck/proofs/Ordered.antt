@@ -21,11 +21,7 @@ use Rattle.deck.proofs.Resolved.{not_false, kept_head, kept_rest, kept, unnumber
 -- the highest rank grows by each card's
 highest_by : (b : Before) (rank : ℕ) (c : DeckCard) → (see b rank c).highest ≡ max b.highest rank
 highest_by b rank card.Comment = refl
-highest_by b rank (card.Record r) = refl
-highest_by b rank (card.Field f) = refl
-highest_by b rank (card.Calculation c) = refl
-highest_by b rank (card.OutputRecord o) = refl
-highest_by b rank (card.OutputField o) = refl
+highest_by b rank _ = refl
 
 below : (text : List ℕ) (i j : ℕ) → i < j → rank_at text i ≤ (seen_by text j).highest
 below text i zero h = absurd (not-suc-le-zero h)

@@ -5,23 +5,22 @@ use Rattle.std.specs.Str.{bytes_eq}
 use Rattle.std.proofs.lemmas.List.FromFn.{get_or-map-range_with_len}
 use Rattle.std.proofs.lemmas.Slice.Eq.{bytes_eq-Decides}
 use Rattle.std.proofs.lemmas.List.{get_or-append-add}
+use Rattle.std.proofs.lemmas.Bool.{false≢true}
+use Rattle.std.proofs.lemmas.Option.{none-some}
 use Rattle.rules.specs.Finding.{first_of}
 use Rattle.rules.specs.Rules as column
 use Rattle.rules.specs.Rules.{first, rule}
 use Rattle.rules.specs.declared.refusal.Refusal.{Refusal}
 use Rattle.rules.specs.declared.refusal.Refusal.TheVariants.{Unknown}
 use Rattle.cards.specs.declared.kinds.DeckCard.{DeckCard}
-use Rattle.cards.specs.declared.kinds.DeckCard.TheVariants.{Comment, Record, Field, Calculation, OutputRecord, OutputField}
+use Rattle.cards.specs.declared.kinds.DeckCard.TheVariants.{Calculation, OutputField}
 use Rattle.fields.specs.Fields.{Fields, is_known}
 use Rattle.uses.specs.Uses.{factor_name, printed_name, knows, unknowns, kinds, uses_told}
 use Rattle.deck.specs.Decks.{count, fields_in, numbered, second_at, first_sweep, second_sweep}
 use Rattle.deck.specs.Laws.{card_in, UsesName, Finds, Accepted}
 
-pub no_some : {X : Type 0} {x : X} {P : Type 0} → ◌≡◌ {A = Option X} (Some x) None → P
-no_some e = absurd (let z : ◌≡◌ {A = ℕ} 0 1 = cc in omega arith)
-
 pub not_false : {P : Type 0} → false ≡ true → P
-not_false e = absurd (let z : ◌≡◌ {A = ℕ} 0 1 = cc in omega arith)
+not_false e = absurd (false≢true e)
 
 -- the first place that passes a test is one of the list, and passes it
 pub passes : {X : Type 0} (t : X → Bool) (xs : List X) (d : X) → is_some (first_of t xs) ≡ true
@@ -48,20 +47,17 @@ kept_head (Some x) rs e = e
 
 pub kept_rest : {X : Type 0} (r : Option X) (rs : List (Option X)) → first (r ∷ rs) ≡ None → first rs ≡ None
 kept_rest None rs e = e
-kept_rest (Some x) rs e = no_some e
+kept_rest (Some x) rs e = absurd (none-some x (sym e))
 
 pub kept : (refusal : Refusal) (at : ℕ) (b : Bool) → rule refusal at b ≡ None → b ≡ true
 kept refusal at true e = refl
-kept refusal at false e = no_some e
+kept refusal at false e = absurd (none-some (refusal, at) (sym e))
 
 is_known_by : (f : Fields) (m : Option (List ℕ)) (n : List ℕ) → m ≡ Some n → knows f m ≡ true → is_known f n ≡ true
 is_known_by f m n u k = subst (λ (x : Option (List ℕ)). knows f x ≡ true) u k
 
 -- a card that tells no unknown name uses known ones
 known : (f : Fields) (c : DeckCard) (n : List ℕ) → unknowns f c ≡ None → UsesName c n → is_known f n ≡ true
-known f Comment n e u = absurd u
-known f (Record r) n e u = absurd u
-known f (Field i) n e u = absurd u
 known f (Calculation c) n e u = by u
   where
     entry : (at : ℕ) (m : Option (List ℕ)) → m ≡ Some n → rule Unknown at (knows f m) ≡ None → is_known f n ≡ true
@@ -74,12 +70,12 @@ known f (Calculation c) n e u = by u
     by (inl s) = entry 18 c.factor1 s (kept_head (rule Unknown 18 (knows f c.factor1)) (rule Unknown 33 (knows f (factor_name c.factor2)) ∷ rule Unknown 43 (knows f c.result) ∷ []) e)
     by (inr (inl s)) = entry 33 (factor_name c.factor2) s (kept_head (rule Unknown 33 (knows f (factor_name c.factor2))) (rule Unknown 43 (knows f c.result) ∷ []) behind)
     by (inr (inr s)) = entry 43 c.result s (kept_head (rule Unknown 43 (knows f c.result)) [] (kept_rest (rule Unknown 33 (knows f (factor_name c.factor2))) (rule Unknown 43 (knows f c.result) ∷ []) behind))
-known f (OutputRecord o) n e u = absurd u
 known f (OutputField o) n e u = is_known_by f (printed_name o.printed) n u (kept Unknown 32 (knows f (printed_name o.printed)) e)
+known f _ n e u = absurd u
 
 pub unnumbered : (k : ℕ) (b : Option column.Breach) → numbered k b ≡ None → b ≡ None
 unnumbered k None e = refl
-unnumbered k (Some b) e = no_some e
+unnumbered k (Some b) e = absurd (none-some (record { refusal = b.0; card = k + 1; column = b.1 }) (sym e))
 
 -- in an accepted deck no card tells anything in the second sweep
 second_kept : (text : List ℕ) → Accepted text → (k : ℕ) → k < count text → second_at text k ≡ None

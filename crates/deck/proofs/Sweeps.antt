@@ -1,8 +1,9 @@
 -- The steps of a sweep over places, and the first entry of one list after another.
-use Rattle.std.proofs.Common.{◌≡◌, ℕ, suc, ◌+◌, ◌-◌, ◌*◌, ◌<◌, ◌≤◌, false, List, [], ◌∷◌, ◌++◌, map, length, get_or, Some, None, Err, Option, Result, sym, refl, ap, ◌∙◌, subst, arith}
+use Rattle.std.proofs.Common.{◌≡◌, ℕ, suc, ◌+◌, ◌-◌, ◌<◌, ◌≤◌, false, List, [], ◌∷◌, ◌++◌, map, length, get_or, Some, None, Err, Option, Result, sym, refl, ap, ◌∙◌, subst, arith}
 use Rattle.std.specs.List.{range_with_len}
 use Rattle.std.proofs.lemmas.List.FromFn.{get_or-map-range_with_len, length-map-range_with_len}
 use Rattle.std.proofs.lemmas.Bool.Decides.{nat_tests}
+use Rattle.std.proofs.lemmas.Option.{none-some}
 use Rattle.rules.specs.Rules.{first, IsFirst}
 use Rattle.rules.proofs.Firsts.{first-none, first_some}
 use Rattle.fields.specs.Fields.{Fields}
@@ -35,10 +36,10 @@ module _ {X : Type 0} where
   first_after : (xs ys : List (Option X)) → first xs ≡ None → first (xs ++ ys) ≡ first ys
   first_after [] ys e = refl
   first_after (None ∷ xs) ys e = first_after xs ys e
-  first_after (Some x ∷ xs) ys e = absurd (let z : ◌≡◌ {A = ℕ} 0 1 = cc in omega arith)
+  first_after (Some x ∷ xs) ys e = absurd (none-some x (sym e))
 
   first-within : (xs ys : List (Option X)) (b : X) → first xs ≡ Some b → first (xs ++ ys) ≡ Some b
-  first-within [] ys b e = absurd (let z : ◌≡◌ {A = ℕ} 0 1 = cc in omega arith)
+  first-within [] ys b e = absurd (none-some b e)
   first-within (None ∷ xs) ys b e = first-within xs ys b e
   first-within (Some x ∷ xs) ys b e = e
 

@@ -1,21 +1,19 @@
 -- Fields of one level go together: of one length and one kind.
-use Rattle.std.proofs.Common.{◌≡◌, ℕ, zero, suc, ◌-◌, ◌<◌, ◌≤◌, Bool, true, false, cond, not, ◌&&◌, ltb, ◌⊎◌, List, [], ◌∷◌, length, get_or, set, is_some, Some, None, Option, sym, refl, ap, ◌∙◌, subst, inl, inr, le_of_suc-le-suc, not-suc-le-zero, eq-or-lt_of_le, arith, length-set}
+use Rattle.std.proofs.Common.{◌≡◌, ℕ, zero, suc, ◌-◌, ◌<◌, ◌≤◌, Bool, true, false, cond, not, ◌&&◌, ltb, ◌⊎◌, List, length, get_or, set, is_some, Some, None, Option, sym, refl, ap, ◌∙◌, subst, inl, inr, le_of_suc-le-suc, not-suc-le-zero, eq-or-lt_of_le, arith, length-set}
 use Rattle.std.proofs.lemmas.List.{get_or-set_same, get_or-set_other}
+use Rattle.std.proofs.lemmas.Bool.{and_parts}
 use Rattle.std.proofs.lemmas.Bool.Decides.{nat_tests}
-use Rattle.rules.specs.Finding.{place_of_name}
-use Rattle.rules.specs.Rules.{rule}
-use Rattle.rules.specs.declared.refusal.Refusal.TheVariants.{Double}
 use Rattle.cards.specs.declared.kinds.Shape.{Shape}
 use Rattle.cards.specs.declared.kinds.Shape.TheVariants.{Number, Text}
 use Rattle.cards.specs.declared.kinds.FieldCard.{FieldCard}
 use Rattle.cards.specs.declared.kinds.DeckCard.{DeckCard}
-use Rattle.cards.specs.declared.kinds.DeckCard.TheVariants.{Comment, Record, Field, Calculation, OutputRecord, OutputField}
+use Rattle.cards.specs.declared.kinds.DeckCard.TheVariants.{Field}
 use Rattle.deck.specs.Decks.{count, defined_by, seen_by}
-use Rattle.deck.specs.Defined.{Defined, Before, define, definition_of, with_level}
+use Rattle.deck.specs.Defined.{Defined, define, with_level}
 use Rattle.deck.specs.Laws.{card_in, Accepted}
-use Rattle.deck.specs.Rules.{go_together, is_like, is_new_level, fits_shape, fits_level, doubles}
-use Rattle.deck.proofs.Apart.{right, doubles_kept}
-use Rattle.deck.proofs.Resolved.{not_false, kept_head, kept_rest, kept}
+use Rattle.deck.specs.Rules.{go_together, fits_shape, fits_level, doubles}
+use Rattle.deck.proofs.Apart.{single_field, doubles_kept}
+use Rattle.deck.proofs.Resolved.{not_false}
 
 together_self : (s : Shape) → go_together s s ≡ true
 together_self (Number m d) = grind (arith, nat_tests)
@@ -40,16 +38,12 @@ stay v (Some m) s q t h = at (ltb (m - 100) 10 && not (is_some (get_or v (m - 10
         not_false (subst (λ (r : Option Shape). not (is_some r) ≡ true) e n)
 
     at : (b : Bool) → (ltb (m - 100) 10 && not (is_some (get_or v (m - 100) None))) ≡ b → get_or (cond b (set v (m - 100) (Some s)) v) q None ≡ Some t
-    at true e = get_or-set_other v (m - 100) q (Some s) None (other (right (ltb (m - 100) 10) (not (is_some (get_or v (m - 100) None))) e)) ∙ h
+    at true e = get_or-set_other v (m - 100) q (Some s) None (other (and_parts (ltb (m - 100) 10) (not (is_some (get_or v (m - 100) None))) e).1) ∙ h
     at false e = h
 
 stays : (d : Defined) (c : DeckCard) (q : ℕ) (t : Shape) → get_or d.levels q None ≡ Some t → get_or (define d c).levels q None ≡ Some t
-stays d Comment q t h = h
-stays d (Record r) q t h = h
 stays d (Field f) q t h = stay d.levels f.level f.shape q t h
-stays d (Calculation c) q t h = h
-stays d (OutputRecord o) q t h = h
-stays d (OutputField o) q t h = h
+stays d _ q t h = h
 
 -- there are ten places for levels
 ten_with : (v : List (Option Shape)) (o : Option ℕ) (s : Shape) → length v ≡ 10 → length (with_level v o s) ≡ 10
@@ -61,12 +55,8 @@ ten_with v (Some m) s h = at (ltb (m - 100) 10 && not (is_some (get_or v (m - 10
     at false = h
 
 ten_define : (d : Defined) (c : DeckCard) → length d.levels ≡ 10 → length (define d c).levels ≡ 10
-ten_define d Comment h = h
-ten_define d (Record r) h = h
 ten_define d (Field f) h = ten_with d.levels f.level f.shape h
-ten_define d (Calculation c) h = h
-ten_define d (OutputRecord o) h = h
-ten_define d (OutputField o) h = h
+ten_define d _ h = h
 
 ten : (text : List ℕ) (k : ℕ) → length (defined_by text k).levels ≡ 10
 ten text zero = refl
@@ -96,20 +86,13 @@ has_new v l s n h k = at (get_or v (l - 100) None) refl k
         }
     at (Some t) e f = record { shape = t; slot = stay v (Some l) s (l - 100) t e; fits = f }
 
--- a field card that is no double fits its level
-fits_kept : (d : Defined) (b : Before) (g : FieldCard) → doubles d b (Field g) ≡ None → fits_level d.levels g.level g.shape ≡ true
-fits_kept d b g e =
-    let name = is_like d.fields (definition_of (Field g)) && not (is_some (place_of_name b.names g.name)) in
-    let new = is_new_level b.levels g.level in
-    let fits = fits_level d.levels g.level g.shape in
-    right new fits (kept Double 59 (new && fits) (kept_head (rule Double 59 (new && fits)) [] (kept_rest (rule Double 53 name) (rule Double 59 (new && fits) ∷ []) e)))
-
+-- a field card of an accepted deck fits its level
 fits_at : (text : List ℕ) → Accepted text → (k : ℕ) → k < count text → (g : FieldCard) → card_in text k ≡ Field g → (l : ℕ) → g.level ≡ Some l → l - 100 < 10 → fits_shape (get_or (defined_by text k).levels (l - 100) None) g.shape ≡ true
 fits_at text a k h g c l e low =
     let d = defined_by text k in
     let b = seen_by text k in
     let told = subst (λ (x : DeckCard). doubles d b x ≡ None) c (doubles_kept text a k h) in
-    let fits = subst (λ (o : Option ℕ). fits_level d.levels o g.shape ≡ true) e (fits_kept d b g told) in
+    let fits = subst (λ (o : Option ℕ). fits_level d.levels o g.shape ≡ true) e (single_field d b g told).fits in
     let test : ltb (l - 100) 10 ≡ true = grind (arith, nat_tests) in
     subst (λ (t : Bool). fits_shape (cond t (get_or d.levels (l - 100) None) None) g.shape ≡ true) test fits
 

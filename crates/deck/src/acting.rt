@@ -35,11 +35,7 @@ impl<'a> Lookup<'a> {
     fn field(&self, name: Option<Name>) -> Option<usize>
         ensures { result ≡ option_map (place_of (fields_of self.now.fields.now)) name }
     {
-        // Tried: name.map(..), but the proof knows too little of a closure that calls `place`.
-        match name {
-            Some(name) => Some(self.fields.place(&name)),
-            None => None,
-        }
+        name.as_ref().map(|name| self.fields.place(name))
     }
 
     // A second factor; a text literal is a part of the deck's text.
@@ -98,12 +94,6 @@ impl<'a> Lookup<'a> {
             end: o.end,
         }
     }
-}
-
-fn is_total(kind: LineKind) -> bool
-    ensures { result ≡ is_total kind }
-{
-    matches!(kind, LineKind::Total)
 }
 
 impl<T: Drop> ByTime<T> {
@@ -186,7 +176,7 @@ impl Actions {
             conditions: o.conditions,
             first,
         };
-        self.add_line(is_total(o.kind), line)
+        self.add_line(o.kind == LineKind::Total, line)
     }
 
     fn add_output(&mut self, output: Output) -> Result<(), AllocError>

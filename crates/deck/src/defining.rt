@@ -40,6 +40,7 @@ pub(crate) fn definition(card: &DeckCard) -> Option<Definition>
 fn enter(fields: &mut FieldTable, definition: Option<Definition>) -> Result<(), AllocError>
     ensures { OnOk result (fields_of fields.new ≡ with_definition (fields_of fields.old) definition) }
 {
+    // Tried: map_or, but of what its closure writes to the table nothing is known.
     match definition {
         Some(d) => fields.enter(&d.name, d.shape),
         None => Ok(()),
@@ -158,6 +159,7 @@ impl Seen {
         ensures { OnOk result (before_of self.new ≡ record { highest = self.old.highest; indicators = self.old.indicators.items; names = self.old.names.items ++ name ∷ []; levels = self.old.levels.items ++ option_to_list level }) }
     {
         self.names.push(name)?;
+        // Plainer than `extend(level)`, whose clause would need a proof of its own.
         if let Some(l) = level {
             self.levels.push(l)?;
         }

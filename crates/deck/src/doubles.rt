@@ -43,10 +43,8 @@ fn go_together(a: Shape, b: Shape) -> bool
 fn is_like(fields: &FieldTable, definition: Option<Definition>) -> bool
     ensures { result ≡ is_like (fields_of fields.now) definition }
 {
-    match definition {
-        Some(d) => fields.find(&d.name).is_none() || fields.shape(&d.name) == d.shape,
-        None => true,
-    }
+    definition.as_ref().is_none_or(|d| fields.find(&d.name).is_none()
+        || fields.shape(&d.name) == d.shape)
 }
 
 // No other input of the record type has the level.

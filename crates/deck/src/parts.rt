@@ -7,6 +7,9 @@ use crate::actions::Actions;
 use crate::definitions::Definitions;
 use crate::kinds::{Input, Output};
 
+// Parts stand in one list for all elements, and not in each: so all is plain data that is copied, and what a field card
+// adds is the same whether or not a record card stands before it.
+
 // The parts of an element, by the place of its first part and that of the next element's.
 fn parts_of<T>(parts: &[T], first: Option<usize>, next: Option<usize>) -> &[T]
     ensures { result.now ≡ parts_of parts.now first next }

@@ -61,7 +61,8 @@ fn refuse(told: Option<Breach>) -> Result<(), ReadError>
 }
 
 impl Definitions {
-    // The first telling of a card.
+    // The first telling of a card. Definitions and what was seen are no one struct: the first stay in the deck's table,
+    // whose lists the next deck uses again, and a struct of references would be made anew for each card.
     fn tell(&self, seen: &Seen, card: &Card) -> Option<rules::Breach>
         ensures { result ≡ first_telling (defined_of self.now) (before_of seen.now) card.now.columns }
     {
@@ -110,7 +111,7 @@ impl Actions {
         Ok(())
     }
 
-    // The second sweep over the cards.
+    // The second sweep over the cards. Passed a closure, one loop for both sweeps would not say what the closure wrote.
     fn look_up_all(&mut self, fields: &FieldTable, text: &[u8]) -> Result<(), ReadError>
         requires fields { fields_of fields.now ≡ fields_in text.now }
         requires empty { acted_of self.old ≡ no_actions }
