@@ -1,7 +1,8 @@
 -- The steps of a sweep over places, and the first entry of one list after another.
-use Rattle.std.proofs.Common.{◌≡◌, ℕ, suc, ◌+◌, ◌-◌, ◌<◌, ◌≤◌, false, List, [], ◌∷◌, ◌++◌, map, length, get_or, Some, None, Err, Option, Result, sym, refl, ap, ◌∙◌, subst, arith}
+use Rattle.std.proofs.Common.{◌≡◌, ℕ, suc, ◌+◌, ◌<◌, ◌≤◌, false, List, [], ◌∷◌, ◌++◌, map, length, drop, get_or, Some, None, Err, Option, Result, sym, refl, ap, ◌∙◌, subst, arith}
 use Rattle.std.specs.List.{range_with_len}
 use Rattle.std.proofs.lemmas.List.FromFn.{get_or-map-range_with_len, length-map-range_with_len}
+use Rattle.std.proofs.lemmas.List.{at_drop_more, at_drop_all}
 use Rattle.std.proofs.lemmas.Bool.Decides.{nat_tests}
 use Rattle.std.proofs.lemmas.Option.{none-some}
 use Rattle.rules.specs.Rules.{first, IsFirst}
@@ -15,23 +16,6 @@ use Rattle.deck.specs.Decks.{card_at, cards, count, is_cut, cut, rules, first_sw
 use Rattle.deck.specs.Defined.{Defined, Before}
 use Rattle.deck.specs.Steps.{DoneUnless, Takes, TakenIn, AllTakenIn, LooksUp, LookedUp, AllLookedUp, Filled}
 
-counting_more : (k n : ℕ) → k < n → range_with_len k (n - k) ≡ k ∷ range_with_len (k + 1) (n - (k + 1))
-counting_more k n h = let e : n - k ≡ suc (n - (k + 1)) = omega arith in ap (range_with_len k) e
-
-counting_end : (k n : ℕ) → n ≤ k → range_with_len k (n - k) ≡ []
-counting_end k n h = let e : n - k ≡ 0 = omega arith in ap (range_with_len k) e
-
--- what is still to be told from place k on
-module _ {X : Type 0} (F : ℕ → Option X) (k n : ℕ) where
-  pub sweep_more : k < n → F k ≡ None → first (map F (range_with_len k (n - k))) ≡ first (map F (range_with_len (k + 1) (n - (k + 1))))
-  sweep_more h e = ap (λ ks. first (map F ks)) (counting_more k n h) ∙ rw e refl
-
-  pub sweep_stop : (b : X) → k < n → F k ≡ Some b → first (map F (range_with_len k (n - k))) ≡ Some b
-  sweep_stop b h e = ap (λ ks. first (map F ks)) (counting_more k n h) ∙ rw e refl
-
-  pub sweep_end : n ≤ k → first (map F (range_with_len k (n - k))) ≡ None
-  sweep_end h = ap (λ ks. first (map F ks)) (counting_end k n h)
-
 module _ {X : Type 0} where
   first_after : (xs ys : List (Option X)) → first xs ≡ None → first (xs ++ ys) ≡ first ys
   first_after [] ys e = refl
@@ -43,20 +27,30 @@ module _ {X : Type 0} where
   first-within (None ∷ xs) ys b e = first-within xs ys b e
   first-within (Some x ∷ xs) ys b e = e
 
--- one step of a sweep
-module _ (tell : ℕ → Option Breach) (k n : ℕ) (inside : k < n) (to-come : first (map tell (range_with_len k (n - k))) ≡ first (map tell (range_with_len 0 n))) where
+-- one step of a sweep, of which what is still to be told from place k on is the first telling of all
+module _ (tell : ℕ → Option Breach) (k n : ℕ) (inside : k < n) (to-come : first (drop k (map tell (range_with_len 0 n))) ≡ first (map tell (range_with_len 0 n))) where
+  next : first (tell k ∷ drop (k + 1) (map tell (range_with_len 0 n))) ≡ first (map tell (range_with_len 0 n))
+  next =
+      let all = map tell (range_with_len 0 n) in
+      let h : k < length all = subst (λ (m : ℕ). k < m) (sym (length-map-range_with_len tell 0 n)) inside in
+      ap (λ (r : Option Breach). first (r ∷ drop (k + 1) all)) (sym (get_or-map-range_with_len tell 0 n k k None inside (omega arith)))
+      ∙ sym (at_drop_more first all k None h) ∙ to-come
+
   pub stopped : (e : ReadError) → DoneUnless (tell k) (Unit {0}) (Err e) → DoneUnless (first (map tell (range_with_len 0 n))) (Unit {0}) (Err e)
-  stopped (Refused b) t = sym to-come ∙ sweep_stop tell k n b inside t
+  stopped (Refused b) t = sym (rw t at next)
   stopped NoMemory t = tt
 
-  pub went_on : tell k ≡ None → first (map tell (range_with_len (k + 1) (n - (k + 1)))) ≡ first (map tell (range_with_len 0 n))
-  went_on t = sym (sweep_more tell k n inside t) ∙ to-come
+  pub went_on : tell k ≡ None → first (drop (k + 1) (map tell (range_with_len 0 n))) ≡ first (map tell (range_with_len 0 n))
+  went_on t = rw t at next
 
 -- a sweep that is over
 pub swept : {S : Type 0} (tell : ℕ → Option Breach) (by_place : ℕ → S) (k n : ℕ) (s : S) → k ≡ n
-    → first (map tell (range_with_len k (n - k))) ≡ first (map tell (range_with_len 0 n)) → s ≡ by_place k
+    → first (drop k (map tell (range_with_len 0 n))) ≡ first (map tell (range_with_len 0 n)) → s ≡ by_place k
     → (first (map tell (range_with_len 0 n)) ≡ None) × (s ≡ by_place n)
-swept tell by_place k n s e to-come is = (sym to-come ∙ sweep_end tell k n (omega (arith, e)), is ∙ ap by_place e)
+swept tell by_place k n s e to-come is = (
+  sym to-come ∙ at_drop_all first (map tell (range_with_len 0 n)) k (omega (arith, e, length-map-range_with_len tell 0 n)),
+  is ∙ ap by_place e,
+)
 
 -- the cards of a text
 module _ (text : List ℕ) (cs : List (List ℕ)) (all : cs ≡ cards text) where
