@@ -12,7 +12,7 @@ use Rattle.cards.specs.declared.kinds.Shape.TheVariants.{Number, Text}
 use Rattle.cards.specs.declared.kinds.DeckCard.{DeckCard}
 use Rattle.cards.specs.declared.kinds.DeckCard.TheVariants.{Comment, Field, Calculation}
 use Rattle.fields.specs.Fields.{Fields, is_known, shape_at, shape_of, entered}
-use Rattle.deck.specs.declared.kinds.Definition.{Definition}
+use Rattle.fields.specs.declared.Definition.{Definition}
 use Rattle.deck.specs.Decks.{count, defined_by, seen_by}
 use Rattle.deck.specs.Defined.{Defined, Before, define, definition_of, with_definition}
 use Rattle.deck.specs.Laws.{card_in, Accepted}

@@ -6,7 +6,7 @@ use Rattle.rules.specs.declared.refusal.Refusal.TheVariants.{TableFull}
 use Rattle.cards.specs.declared.kinds.DeckCard.{DeckCard}
 use Rattle.cards.specs.declared.kinds.DeckCard.TheVariants.{Record, Field, Calculation}
 use Rattle.fields.specs.Fields.{Fields, is_known}
-use Rattle.deck.specs.declared.kinds.Definition.{Definition}
+use Rattle.fields.specs.declared.Definition.{Definition}
 use Rattle.deck.specs.Decks.{count, fields_in, defined_by, seen_by}
 use Rattle.deck.specs.Defined.{Defined, Before, define, definition_of, type_of, with_definition, see}
 use Rattle.deck.specs.Laws.{card_in, rank_at, Accepted}

@@ -8,7 +8,7 @@ use Rattle.cards.specs.declared.kinds.DeckCard.{DeckCard}
 use Rattle.cards.specs.declared.kinds.DeckCard.TheVariants.{Comment, Record, Field, Calculation, OutputRecord, OutputField}
 use Rattle.deck.specs.declared.kinds.RecordType.{RecordType}
 use Rattle.deck.specs.declared.kinds.Input.{Input}
-use Rattle.deck.specs.declared.kinds.Definition.{Definition}
+use Rattle.fields.specs.declared.Definition.{Definition}
 use Rattle.deck.specs.declared.definitions.Definitions.{Definitions}
 use Rattle.deck.specs.declared.seen.Seen.{Seen}
 use Rattle.fields.specs.Fields.{Fields, no_fields, fields_of, entered, place_of}

@@ -11,7 +11,7 @@ use Rattle.cards.specs.declared.kinds.DeckCard.TheVariants.{Comment, Record, Fie
 use Rattle.meanings.specs.Meanings.{card_of}
 use Rattle.fields.specs.Fields.{Fields, place_of}
 use Rattle.uses.specs.Uses.{factor_name, printed_name}
-use Rattle.deck.specs.declared.kinds.Definition.{Definition}
+use Rattle.fields.specs.declared.Definition.{Definition}
 use Rattle.deck.specs.declared.kinds.ReadError.{ReadError}
 use Rattle.deck.specs.Decks.{card_at, count, defined_by, fields_in, rules}
 use Rattle.deck.specs.Defined.{definition_of}

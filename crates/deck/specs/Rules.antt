@@ -8,7 +8,7 @@ use Rattle.cards.specs.declared.kinds.Shape.TheVariants.{Number, Text}
 use Rattle.cards.specs.declared.kinds.DeckCard.{DeckCard}
 use Rattle.cards.specs.declared.kinds.DeckCard.TheVariants.{Comment, Record, Field, Calculation, OutputRecord, OutputField}
 use Rattle.fields.specs.Fields.{Fields, is_known, shape_of}
-use Rattle.deck.specs.declared.kinds.Definition.{Definition}
+use Rattle.fields.specs.declared.Definition.{Definition}
 use Rattle.deck.specs.Defined.{Defined, Before, definition_of, level_shape}
 
 -- two shapes are alike: of one kind, one length and the same decimals

@@ -5,11 +5,11 @@ ghost use Rattle.fields.specs.Fields.{fields_of};
 ghost use Rattle.cards.specs.declared.kinds.DeckCard.TheVariants.{Record, Field};
 
 use crate::definitions::Definitions;
-use crate::kinds::{Definition, Input, RecordType};
+use crate::kinds::{Input, RecordType};
 use crate::seen::Seen;
 use cards::kinds::{CalculationCard, DeckCard, FieldCard, RecordCard, Shape};
 use columns::kinds::{Indicator, Name};
-use fields::FieldTable;
+use fields::{Definition, FieldTable};
 use std::alloc::{AllocError, Global};
 
 fn result_definition(name: Option<Name>, shape: Option<Shape>) -> Option<Definition>

@@ -6,26 +6,20 @@ ghost use Rattle.rules.specs.Finding.{place_of_name};
 
 use crate::defining::definition;
 use crate::definitions::Definitions;
-use crate::kinds::Definition;
 use crate::seen::Seen;
 use cards::kinds::{DeckCard, FieldCard, Shape};
 use columns::kinds::Indicator;
-use fields::FieldTable;
-use rules::{Breach, Refusal, find_indicator, find_name, first_of, rule};
+use fields::{Definition, FieldTable};
+use rules::{Breach, Refusal, first_equal, first_of, rule};
 
-// The most fields and the most record types that a deck may have.
-const MOST_FIELDS: usize = 64;
-
+// The most record types that a deck may have.
 const MOST_TYPES: usize = 16;
 
 // A field that is not known yet finds a place.
 fn has_place(fields: &FieldTable, definition: Option<Definition>) -> bool
     ensures { result ≡ has_place (fields_of fields.now) definition }
 {
-    match definition {
-        Some(d) => fields.find(&d.name).is_some() || fields.names.len() < MOST_FIELDS,
-        None => true,
-    }
+    definition.is_none_or(|d| fields.has_place(&d.name))
 }
 
 // Of one kind and one length.
@@ -52,7 +46,7 @@ fn is_new_level(levels: &[Indicator], level: Option<Indicator>) -> bool
     ensures { result ≡ is_new_level levels.now level }
 {
     match level {
-        Some(l) => find_indicator(levels, l).is_none(),
+        Some(l) => first_equal(levels, &l).is_none(),
         None => true,
     }
 }
@@ -90,7 +84,8 @@ impl Definitions {
             name,
             shape: f.shape,
         };
-        is_like(&self.fields, Some(defined)) && find_name(seen.names.as_slice(), &f.name).is_none()
+        is_like(&self.fields, Some(defined))
+            && first_equal(seen.names.as_slice(), &f.name).is_none()
     }
 
     fn is_single_level(&self, seen: &Seen, f: &FieldCard) -> bool
@@ -107,7 +102,7 @@ impl Definitions {
             DeckCard::Record(r) => rule(
                 Refusal::Double,
                 19,
-                find_indicator(seen.indicators.as_slice(), r.indicator).is_none(),
+                first_equal(seen.indicators.as_slice(), &r.indicator).is_none(),
             ),
             DeckCard::Field(f) => first_of(&[
                 rule(Refusal::Double, 53, self.is_single_name(seen, &f)),

@@ -1,12 +1,15 @@
 ghost use Rattle.std.specs.Prelude.{◌≡◌};
 ghost use Rattle.deck.specs.declared.kinds.ReadError.TheVariants.{NoMemory};
 
-use cards::kinds::{Codes, Conditions, LineKind, Shape, Told};
-use columns::kinds::{Indicator, Literal, Name};
+use cards::kinds::{Codes, Conditions, LineKind, Told};
+use columns::kinds::{Indicator, Literal};
 use images::EditCode;
 use operations::Operation;
 use rules::Refusal;
 use std::alloc::AllocError;
+
+// A field's name with its shape, as one card defines it.
+pub use fields::Definition;
 
 // A record type: the indicator that tells it, the codes that identify its cards, and the place of its first field
 // among the inputs. Its fields go up to the first of the next type.
@@ -108,13 +111,6 @@ impl From<AllocError> for ReadError {
     fn from(_e: AllocError) -> ReadError {
         ReadError::NoMemory
     }
-}
-
-// A field's name with its shape, as one card defines it.
-#[derive(Clone, Copy)]
-pub struct Definition {
-    pub name: Name,
-    pub shape: Shape,
 }
 
 // A refusal in numbers: its own, the card and the column.

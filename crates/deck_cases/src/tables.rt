@@ -21,10 +21,12 @@ pub fn show_deck(rt: &HostRuntime, deck: &Deck) -> io::Result<()> {
 }
 
 fn show_fields(rt: &HostRuntime, fields: &FieldTable) -> io::Result<()> {
-    for (i, name) in fields.names.iter().enumerate() {
-        if let Some(shape) = fields.shapes.get(i) {
-            rt.println(Row(&[Cell::Word("field"), Cell::Name(*name), size(*shape)]))?;
-        }
+    for field in &fields.definitions {
+        rt.println(Row(&[
+            Cell::Word("field"),
+            Cell::Name(field.name),
+            size(field.shape),
+        ]))?;
     }
     Ok(())
 }

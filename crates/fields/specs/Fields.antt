@@ -1,5 +1,5 @@
 -- The field table: each name once, in the order of first definition, with its shape.
-use Rattle.std.specs.Prelude.{ℕ, Bool, cond, ◌||◌, List, [], ◌∷◌, ◌++◌, length, is_some, Some, None, vec_items, Option, nat_lt, slice_index_or}
+use Rattle.std.specs.Prelude.{ℕ, Bool, cond, ◌||◌, List, [], ◌∷◌, ◌++◌, length, map, is_some, Some, None, vec_items, Option, nat_lt, slice_index_or}
 use Rattle.std.specs.Option.{unwrap_or}
 use Rattle.rules.specs.Finding.{place_of_name}
 use Rattle.cards.specs.declared.kinds.Shape.{Shape}
@@ -15,7 +15,7 @@ no_fields = record { names = []; shapes = [] }
 
 -- what a field table holds
 abbrev pub fields_of : FieldTable → Fields
-fields_of t = record { names = vec_items t.names; shapes = vec_items t.shapes }
+fields_of t = record { names = map (λ d. d.name) (vec_items t.definitions); shapes = map (λ d. d.shape) (vec_items t.definitions) }
 
 abbrev pub is_known : Fields → List ℕ → Bool
 is_known f n = is_some (place_of_name f.names n)

@@ -11,9 +11,15 @@ use columns::kinds::Name;
 
 mod naming;
 
-// Each name once, in the order of first definition, and its shape at the same place.
+// A field's name with its shape.
+#[derive(Clone, Copy)]
+pub struct Definition {
+    pub name: Name,
+    pub shape: Shape,
+}
+
+// Each name once, with its shape, in the order of first definition.
 #[derive(Drop)]
 pub struct FieldTable {
-    pub names: Vec<Name>,
-    pub shapes: Vec<Shape>,
+    pub definitions: Vec<Definition>,
 }

@@ -1,15 +1,24 @@
-ghost use Rattle.std.specs.Prelude.{◌≡◌, ℕ, Some, vec_len, OnOk};
+ghost use Rattle.std.specs.Prelude.{◌≡◌, vec_items, OnOk};
 ghost use Rattle.rules.specs.Finding.{place_of_name};
-ghost use Rattle.fields.specs.Fields.{fields_of, no_fields, is_known, place_of, shape_at, shape_of, has_place_for, entered};
+ghost use Rattle.fields.specs.Fields.{fields_of, no_fields, is_known, place_of, shape_of, has_place_for, entered};
 
-use crate::FieldTable;
+use crate::{Definition, FieldTable};
 use cards::kinds::Shape;
 use columns::kinds::Name;
-use rules::find_name;
+use rules::{Keyed, first_equal};
 use std::alloc::{AllocError, Global};
 
 // The most fields that a deck may have.
 const MOST_FIELDS: usize = 64;
+
+// A field is found by its name.
+impl Keyed<Name> for Definition {
+    ghost key_of = { λ field. field.name };
+
+    fn key(&self) -> &Name {
+        &self.name
+    }
+}
 
 impl FieldTable {
     // An empty table.
@@ -17,8 +26,7 @@ impl FieldTable {
         ensures { fields_of result ≡ no_fields }
     {
         FieldTable {
-            names: Vec::new(heap),
-            shapes: Vec::new(heap),
+            definitions: Vec::new(heap),
         }
     }
 
@@ -26,7 +34,7 @@ impl FieldTable {
     pub fn find(&self, name: &Name) -> Option<usize>
         ensures { result ≡ place_of_name (fields_of self.now).names name.now }
     {
-        find_name(self.names.as_slice(), name)
+        first_equal(self.definitions.as_slice(), name)
     }
 
     fn is_known(&self, name: &Name) -> bool
@@ -46,28 +54,16 @@ impl FieldTable {
     pub fn shape(&self, name: &Name) -> Shape
         ensures { result ≡ shape_of (fields_of self.now) name.now }
     {
-        match self.find(name) {
-            Some(i) => self.shape_at(i),
-            None => Shape::Text { length: 0 },
-        }
-    }
-
-    // The shape at a place.
-    fn shape_at(&self, i: usize) -> Shape
-        ensures { result ≡ shape_at (fields_of self.now) (Some i) }
-    {
-        if i < self.shapes.len() {
-            self.shapes[i]
-        } else {
-            Shape::Text { length: 0 }
-        }
+        self.find(name)
+            .and_then(|i| self.definitions.get(i))
+            .map_or(Shape::Text { length: 0 }, |field| field.shape)
     }
 
     // Whether a name finds a place: it is known, or fewer than 64 names are.
     pub fn has_place(&self, name: &Name) -> bool
         ensures { result ≡ has_place_for (fields_of self.now) name.now }
     {
-        self.is_known(name) || self.names.len() < MOST_FIELDS
+        self.is_known(name) || self.definitions.len() < MOST_FIELDS
     }
 
     // A name that is new comes last; one that is known stays as it is.
@@ -77,8 +73,7 @@ impl FieldTable {
         if self.is_known(name) {
             return Ok(());
         }
-        self.names.push(*name)?;
-        self.shapes.push(shape)?;
+        self.definitions.push(Definition { name: *name, shape })?;
         Ok(())
     }
 
@@ -86,7 +81,6 @@ impl FieldTable {
     pub fn clear(&mut self)
         ensures { fields_of self.new ≡ no_fields }
     {
-        self.names.clear();
-        self.shapes.clear();
+        self.definitions.clear();
     }
 }

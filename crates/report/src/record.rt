@@ -1,9 +1,8 @@
 // A short record of what an accepted deck holds.
 use cards::kinds::Shape;
-use columns::kinds::Name;
 use deck::deck::Deck;
 use deck::definitions::Definitions;
-use fields::FieldTable;
+use fields::{Definition, FieldTable};
 use shown::{Cell, Row};
 use std::io;
 
@@ -43,18 +42,16 @@ fn show_types(rt: &HostRuntime, d: &Definitions) -> io::Result<()> {
 
 // Each field with its digits and decimals, or its length.
 fn show_fields(rt: &HostRuntime, fields: &FieldTable) -> io::Result<()> {
-    for (i, name) in fields.names.iter().enumerate() {
-        if let Some(shape) = fields.shapes.get(i) {
-            show_field(rt, *name, *shape)?;
-        }
+    for field in &fields.definitions {
+        show_field(rt, field)?;
     }
     Ok(())
 }
 
-fn show_field(rt: &HostRuntime, name: Name, shape: Shape) -> io::Result<()> {
+fn show_field(rt: &HostRuntime, field: &Definition) -> io::Result<()> {
     let word = Cell::Word("field");
-    let name = Cell::Name(name);
-    match shape {
+    let name = Cell::Name(field.name);
+    match field.shape {
         Shape::Number { digits, decimals } => rt.println(Row(&[
             word,
             name,

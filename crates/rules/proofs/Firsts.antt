@@ -1,17 +1,14 @@
--- The steps of looking for the first breach, and what it means that an answer is the first.
-use Rattle.std.proofs.Common.{◌≡◌, ℕ, zero, suc, ◌+◌, ◌<◌, ◌≤◌, List, [], ◌∷◌, length, get_or, drop, Some, None, Option, refl, ◌∙◌, arith}
-use Rattle.std.proofs.lemmas.List.{at_drop_more, at_drop_all}
+-- The first breach as std finds it, and what it means that an answer is the first.
+use Rattle.std.proofs.Common.{◌≡◌, ℕ, zero, suc, ◌<◌, List, [], ◌∷◌, get_or, is_some, Some, None, Option, refl, arith}
+use Rattle.std.specs.List.{find}
+use Rattle.std.specs.Option.{option_flatten}
 use Rattle.rules.specs.Rules.{first, IsFirst}
 
 module _ {X : Type 0} where
-  pub first_more : (rs : List (Option X)) (i : ℕ) → i < length rs → get_or rs i None ≡ None → first (drop i rs) ≡ first (drop (i + 1) rs)
-  first_more rs i h e = at_drop_more first rs i None h ∙ rw e refl
-
-  pub first_stop : (rs : List (Option X)) (i : ℕ) (b : X) → i < length rs → get_or rs i None ≡ Some b → first (drop i rs) ≡ Some b
-  first_stop rs i b h e = at_drop_more first rs i None h ∙ rw e refl
-
-  pub first_end : (rs : List (Option X)) (i : ℕ) → length rs ≤ i → first (drop i rs) ≡ None
-  first_end rs i h = at_drop_all first rs i h
+  pub first_found : (rs : List (Option X)) → option_flatten (find is_some rs) ≡ first rs
+  first_found [] = refl
+  first_found (None ∷ rs) = first_found rs
+  first_found (Some b ∷ rs) = refl
 
   pub first-none : (rs : List (Option X)) → first rs ≡ None → IsFirst rs None
   first-none [] e i = refl

@@ -1,19 +1,18 @@
--- The first place by a relation is the first place by a test, where the relation's answer is the test's.
-use Rattle.std.proofs.Common.{◌≡◌, ℕ, zero, suc, Bool, true, false, List, [], ◌∷◌, Some, None, Option, sym, refl, ap, arith}
+-- The first place whose entry passes a test: as std counts it, and where the entries are parts of others.
+use Rattle.std.proofs.Common.{◌≡◌, ℕ, suc, ◌+◌, Bool, true, false, cond, not, List, [], ◌∷◌, length, map, Some, None, refl, ◌∙◌, ap, nat_lt, arith}
+use Rattle.std.specs.List.{position, position_or_len}
 use Rattle.std.specs.Option.{option_map}
-use Rattle.rules.specs.Finding.{First, first_of}
+use Rattle.std.proofs.lemmas.Bool.Decides.{nat_tests}
+use Rattle.rules.specs.Finding.{first_of}
 
-module _ {X : Type 0} (t : X → Bool) (E : X → Bool → Type 0) (tells : (y : X) (b : Bool) → E y b → b ≡ t y) where
-  pub first_is : (xs : List X) (r : Option ℕ) → First E xs r → r ≡ first_of t xs
-  first_is [] None h = refl
-  first_is [] (Some i) h = absurd (omega (arith, h.0))
-  first_is (x ∷ xs) None h =
-      let e : t x ≡ false = sym (tells x false (h 0 x (omega arith) (omega arith))) in
-      let rest : None ≡ first_of t xs = first_is xs None (λ k d a b. h (suc k) d (omega arith) (omega arith)) in
-      rw e (ap (option_map suc) rest)
-  first_is (x ∷ xs) (Some zero) h =
-      let e : t x ≡ true = sym (tells x true (h.1 x)) in rw e refl
-  first_is (x ∷ xs) (Some (suc i)) h =
-      let e : t x ≡ false = sym (tells x false (h.2 0 x (omega arith) (omega arith))) in
-      let rest : Some i ≡ first_of t xs = first_is xs (Some i) (omega (arith, h.0), h.1, λ k d a b. h.2 (suc k) d (omega arith) (omega arith)) in
-      rw e (ap (option_map suc) rest)
+counted : (b : Bool) (p n : ℕ) → let i = cond (not b) (1 + p) 0 in cond (nat_lt i (suc n)) (Some i) None ≡ cond b (Some 0) (option_map suc (cond (nat_lt p n) (Some p) None))
+counted true p n = grind (arith, nat_tests)
+counted false p n = grind (arith, nat_tests)
+
+pub first_of-position : {X : Type 0} (t : X → Bool) (xs : List X) → position t xs ≡ first_of t xs
+first_of-position t [] = refl
+first_of-position t (x ∷ xs) = counted (t x) (position_or_len t xs) (length xs) ∙ ap (λ r. cond (t x) (Some 0) (option_map suc r)) (first_of-position t xs)
+
+pub first_of-map : {X Y : Type 0} (t : Y → Bool) (f : X → Y) (xs : List X) → first_of t (map f xs) ≡ first_of (λ x. t (f x)) xs
+first_of-map t f [] = refl
+first_of-map t f (x ∷ xs) = ap (λ r. cond (t (f x)) (Some 0) (option_map suc r)) (first_of-map t f xs)

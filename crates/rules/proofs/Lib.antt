@@ -1,2 +1,2 @@
 pub mod Firsts
-mod Found
+pub mod Found

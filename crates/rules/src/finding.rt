@@ -1,47 +1,27 @@
 ghost use Rattle.std.specs.Prelude.{◌≡◌, ℕ, ◌<◌, length, IfSome};
-ghost use Rattle.rules.specs.Finding.{First, place_of_name, place_of_indicator};
+ghost use Rattle.rules.specs.Finding.{first_of};
 
-use columns::kinds::{Indicator, Name};
+// An entry that is found by a key, which is a part of it.
+pub trait Keyed<K> {
+    ghost key_of: { Self → K };
 
-// The place of the first entry that equals the one sought, for any kind of entry that has an equality.
-pub fn first_equal<T: PartialEq>(entries: &[T], sought: &T) -> Option<usize>
-    ensures within { IfSome result (λ i. i < length entries.now) }
-    ensures first { First (λ y b. b ≡ T.PartialEq.eq y sought.now) entries.now result }
-{
-    for (i, y) in entries.iter().enumerate() {
-        if *y == *sought {
-            return Some(i);
-        }
+    fn key(&self) -> &K
+        ensures { result.now ≡ key_of self.now };
+}
+
+// Every value is the key of itself.
+impl<T> Keyed<T> for T {
+    ghost key_of = { λ entry. entry };
+
+    fn key(&self) -> &T {
+        self
     }
-    None
 }
 
-// The place of a field's name among others.
-pub fn find_name(names: &[Name], name: &Name) -> Option<usize>
-    ensures first { result ≡ place_of_name names.now name.now }
-    ensures within { IfSome result (λ i. i < length names.now) }
+// The place of the first entry whose key equals the one sought, for any kind of key that has an equality.
+pub fn first_equal<K: PartialEq, T: Keyed<K>>(entries: &[T], sought: &K) -> Option<usize>
+    ensures within { IfSome result (λ i. i < length entries.now) }
+    ensures first { result ≡ first_of (λ y. K.PartialEq.eq (T.key_of y) sought.now) entries.now }
 {
-    place_of_name(names, name)
-}
-
-fn place_of_name(names: &[Name], name: &Name) -> Option<usize>
-    ensures first { result ≡ place_of_name names.now name.now }
-    ensures within { IfSome result (λ i. i < length names.now) }
-{
-    first_equal(names, name)
-}
-
-// The place of an indicator among others.
-pub fn find_indicator(indicators: &[Indicator], indicator: Indicator) -> Option<usize>
-    ensures first { result ≡ place_of_indicator indicators.now indicator }
-    ensures within { IfSome result (λ i. i < length indicators.now) }
-{
-    place_of_indicator(indicators, indicator)
-}
-
-fn place_of_indicator(indicators: &[Indicator], indicator: Indicator) -> Option<usize>
-    ensures first { result ≡ place_of_indicator indicators.now indicator }
-    ensures within { IfSome result (λ i. i < length indicators.now) }
-{
-    first_equal(indicators, &indicator)
+    entries.iter().position(|y| *y.key() == *sought)
 }

@@ -17,7 +17,7 @@ pub enum Refusal {
 pub type Breach = (Refusal, u8);
 
 impl Refusal {
-    // The refusal's number.
+    // The refusal's number. The numbers are told and never change, so each stands beside its reason.
     pub fn number(self) -> u8
         ensures { result ≡ number_of self }
     {

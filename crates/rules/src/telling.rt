@@ -10,7 +10,7 @@ use devices::Card;
 pub fn rule(refusal: Refusal, column: u8, kept: bool) -> Option<Breach>
     ensures { result ≡ rule refusal column kept }
 {
-    if kept { None } else { Some((refusal, column)) }
+    (!kept).then_some((refusal, column))
 }
 
 // A rule on what may be punched into an entry, which is told at the entry's first column.
@@ -26,27 +26,12 @@ pub fn each(card: &Card, class: Class, from: u8, to: u8) -> Option<Breach>
 {
     let s = entry(card, from, to);
     let n = class.run(s);
-    if n < s.len() {
-        Some((Refusal::Punch, from + n as u8))
-    } else {
-        None
-    }
+    (n < s.len()).then(|| (Refusal::Punch, from + n as u8))
 }
 
 // The first breach of rules in telling order.
 pub fn first_of(rules: &[Option<Breach>]) -> Option<Breach>
     ensures { result ≡ first rules.now }
 {
-    first_told(rules)
-}
-
-fn first_told(rules: &[Option<Breach>]) -> Option<Breach>
-    ensures { result ≡ first rules.now }
-{
-    for rule in rules {
-        if let Some(breach) = *rule {
-            return Some(breach);
-        }
-    }
-    None
+    rules.iter().copied().find(|rule| rule.is_some()).flatten()
 }
