@@ -14,10 +14,10 @@ module _ {X : Type 0} where
   first-none [] e i = refl
   first-none (None ∷ rs) e zero = refl
   first-none (None ∷ rs) e (suc i) = first-none rs e i
-  first-none (Some x ∷ rs) e i = absurd (let z : ◌≡◌ {A = ℕ} 0 1 = cc in omega arith)
+  first-none (Some x ∷ rs) e i = absurd cc
 
   pub first_some : (rs : List (Option X)) (b : X) → first rs ≡ Some b → IsFirst rs (Some b)
-  first_some [] b e = absurd (let z : ◌≡◌ {A = ℕ} 0 1 = cc in omega arith)
+  first_some [] b e = absurd cc
   first_some (None ∷ rs) b e =
       let p = first_some rs b e in
       (suc p.0, p.1, λ j h. before_it rs p.0 p.2 j h)

@@ -1,5 +1,5 @@
 ghost use Rattle.std.specs.Prelude.{◌≡◌, ℕ, ◌<◌, length, IfSome};
-ghost use Rattle.rules.specs.Finding.{first_of};
+ghost use Rattle.rules.specs.Finding.{First, first_of};
 
 // An entry that is found by a key, which is a part of it.
 pub trait Keyed<K> {
@@ -21,7 +21,8 @@ impl<T> Keyed<T> for T {
 // The place of the first entry whose key equals the one sought, for any kind of key that has an equality.
 pub fn first_equal<K: PartialEq, T: Keyed<K>>(entries: &[T], sought: &K) -> Option<usize>
     ensures within { IfSome result (λ i. i < length entries.now) }
-    ensures first { result ≡ first_of (λ y. K.PartialEq.eq (T.key_of y) sought.now) entries.now }
+    ensures first { First (λ y b. b ≡ K.PartialEq.eq (T.key_of y) sought.now) entries.now result }
+    ensures place { result ≡ first_of (λ y. K.PartialEq.eq (T.key_of y) sought.now) entries.now }
 {
     entries.iter().position(|y| *y.key() == *sought)
 }

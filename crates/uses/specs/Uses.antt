@@ -84,6 +84,10 @@ arithmetic x y z = first (rule Kind 18 (numeric_in x) ∷ rule Kind 33 (numeric_
 abbrev pub division : Option Shape → Option Shape → Option Shape → Option Breach
 division x y z = first (rule Kind 18 (numeric_in x) ∷ rule Kind 28 (divides x y z) ∷ rule Kind 33 (numeric_in y) ∷ rule Kind 43 (numeric_in z) ∷ [])
 
+-- arithmetic with a rule on column 28, which a division asks and nothing else
+abbrev pub arithmetic_with : Bool → Option Shape → Option Shape → Option Shape → Option Breach
+arithmetic_with kept x y z = first (rule Kind 18 (numeric_in x) ∷ rule Kind 28 kept ∷ rule Kind 33 (numeric_in y) ∷ rule Kind 43 (numeric_in z) ∷ [])
+
 -- the kinds that an operation asks of factor 1, factor 2 and the result
 abbrev pub kinds_for : Option Operation → Option Shape → Option Shape → Option Shape → Option Breach
 kinds_for None x y z = None

@@ -10,11 +10,10 @@
 ghost use Rattle.std.specs.Prelude.{◌≡◌, ℕ, ◌+◌, List, [], ◌∷◌, is_some, IfSome};
 ghost use Rattle.std.specs.Option.{option_map};
 ghost use Rattle.numbers.specs.Limits.{is_picture};
-ghost use Rattle.cards.specs.declared.kinds.Shape.TheVariants.{Number};
 ghost use Rattle.cards.specs.declared.kinds.DeckCard.TheVariants.{Calculation};
 ghost use Rattle.rules.specs.Rules.{first};
 ghost use Rattle.fields.specs.Fields.{fields_of, shape_of};
-ghost use Rattle.uses.specs.Uses.{knows, factor_name, printed_name, unknowns, factor_shape, is_numeric, numeric_in, text_in, same_kind, decimals_of, divides, arithmetic, division, kinds_for, has_columns, prints_shape, prints, kinds, uses_told};
+ghost use Rattle.uses.specs.Uses.{knows, factor_name, printed_name, unknowns, factor_shape, is_numeric, numeric_in, text_in, same_kind, decimals_of, divides, arithmetic_with, kinds_for, has_columns, prints_shape, prints, kinds, uses_told};
 
 use cards::kinds::{CalculationCard, DeckCard, Factor, Printed, Shape};
 use columns::kinds::Name;
@@ -48,35 +47,20 @@ fn printed_name(printed: Printed) -> Option<Name>
 fn is_numeric(shape: Shape) -> bool
     ensures { result ≡ is_numeric shape }
 {
-    match shape {
-        Shape::Number { .. } => true,
-        Shape::Text { .. } => false,
-    }
+    matches!(shape, Shape::Number { .. })
 }
 
 // Whether an entry is blank or a number, and blank or text.
 fn is_number(entry: Option<Shape>) -> bool
     ensures { result ≡ numeric_in entry }
 {
-    match entry {
-        Some(shape) => is_numeric(shape),
-        None => true,
-    }
+    entry.is_none_or(is_numeric)
 }
 
 fn is_text(entry: Option<Shape>) -> bool
     ensures { result ≡ text_in entry }
 {
-    match entry {
-        Some(shape) => !is_numeric(shape),
-        None => true,
-    }
-}
-
-fn is_same_kind(x: Option<Shape>, y: Option<Shape>) -> bool
-    ensures { result ≡ same_kind x y }
-{
-    (is_number(x) && is_number(y)) || (is_text(x) && is_text(y))
+    entry.is_none_or(|shape| !is_numeric(shape))
 }
 
 fn decimals(entry: Option<Shape>) -> u16
@@ -88,56 +72,64 @@ fn decimals(entry: Option<Shape>) -> u16
     }
 }
 
-// Of three numbers, the decimals of the result and the divisor are at most nine more than those of the dividend.
-fn divides(x: Option<Shape>, y: Option<Shape>, z: Option<Shape>) -> bool
-    ensures { result ≡ divides x y z }
-{
-    let most = decimals(x) as u32 + 9;
-    let wanted = decimals(z) as u32 + decimals(y) as u32;
-    !(is_number(x) && is_number(y) && is_number(z)) || wanted <= most
+// The shapes of the entries of a calculation, where they are filled.
+#[derive(Clone, Copy)]
+struct Shapes {
+    factor1: Option<Shape>,
+    factor2: Option<Shape>,
+    result: Option<Shape>,
 }
 
-fn tell_arithmetic(x: Option<Shape>, y: Option<Shape>, z: Option<Shape>) -> Option<Breach>
-    ensures { result ≡ arithmetic x y z }
-{
-    first_of(&[
-        rule(Refusal::Kind, 18, is_number(x)),
-        rule(Refusal::Kind, 33, is_number(y)),
-        rule(Refusal::Kind, 43, is_number(z)),
-    ])
-}
+impl Shapes {
+    fn is_same_kind(self) -> bool
+        ensures { result ≡ same_kind self.factor1 self.factor2 }
+    {
+        (is_number(self.factor1) && is_number(self.factor2))
+            || (is_text(self.factor1) && is_text(self.factor2))
+    }
 
-fn tell_division(x: Option<Shape>, y: Option<Shape>, z: Option<Shape>) -> Option<Breach>
-    ensures { result ≡ division x y z }
-{
-    first_of(&[
-        rule(Refusal::Kind, 18, is_number(x)),
-        rule(Refusal::Kind, 28, divides(x, y, z)),
-        rule(Refusal::Kind, 33, is_number(y)),
-        rule(Refusal::Kind, 43, is_number(z)),
-    ])
-}
+    // Of three numbers, the decimals of the result and the divisor are at most nine more than those of the dividend.
+    fn divides(self) -> bool
+        ensures { result ≡ divides self.factor1 self.factor2 self.result }
+    {
+        let most = decimals(self.factor1) as u32 + 9;
+        let wanted = decimals(self.result) as u32 + decimals(self.factor2) as u32;
+        !(is_number(self.factor1) && is_number(self.factor2) && is_number(self.result))
+            || wanted <= most
+    }
 
-// The kinds that an operation asks of factor 1, factor 2 and the result.
-fn tell_operation(
-    operation: Option<Operation>,
-    x: Option<Shape>,
-    y: Option<Shape>,
-    z: Option<Shape>,
-) -> Option<Breach>
-    ensures { result ≡ kinds_for operation x y z }
-{
-    match operation {
-        Some(
-            Operation::Add | Operation::Sub | Operation::Mult | Operation::ZAdd | Operation::ZSub,
-        ) => tell_arithmetic(x, y, z),
-        Some(Operation::Div) => tell_division(x, y, z),
-        Some(Operation::Comp) => rule(Refusal::Kind, 33, is_same_kind(x, y)),
-        Some(Operation::Move) => first_of(&[
-            rule(Refusal::Kind, 33, is_text(y)),
-            rule(Refusal::Kind, 43, is_text(z)),
-        ]),
-        Some(Operation::SetOn | Operation::SetOf) | None => None,
+    // Arithmetic takes numbers; behind the rule on factor 1 stands one on column 28, which only a division may break.
+    fn tell_arithmetic(self, kept: bool) -> Option<Breach>
+        ensures { result ≡ arithmetic_with kept self.factor1 self.factor2 self.result }
+    {
+        first_of(&[
+            rule(Refusal::Kind, 18, is_number(self.factor1)),
+            rule(Refusal::Kind, 28, kept),
+            rule(Refusal::Kind, 33, is_number(self.factor2)),
+            rule(Refusal::Kind, 43, is_number(self.result)),
+        ])
+    }
+
+    // The kinds that an operation asks of factor 1, factor 2 and the result.
+    fn tell(self, operation: Option<Operation>) -> Option<Breach>
+        ensures { result ≡ kinds_for operation self.factor1 self.factor2 self.result }
+    {
+        match operation {
+            Some(
+                Operation::Add
+                | Operation::Sub
+                | Operation::Mult
+                | Operation::ZAdd
+                | Operation::ZSub,
+            ) => self.tell_arithmetic(true),
+            Some(Operation::Div) => self.tell_arithmetic(self.divides()),
+            Some(Operation::Comp) => rule(Refusal::Kind, 33, self.is_same_kind()),
+            Some(Operation::Move) => first_of(&[
+                rule(Refusal::Kind, 33, is_text(self.factor2)),
+                rule(Refusal::Kind, 43, is_text(self.result)),
+            ]),
+            Some(Operation::SetOn | Operation::SetOf) | None => None,
+        }
     }
 }
 
@@ -146,20 +138,7 @@ fn picture(digits: u16, decimals: u16) -> Option<Picture>
     ensures made { is_some result ≡ is_picture digits decimals }
     ensures parts { IfSome result (λ p. (p.digits ≡ digits) × (p.decimals ≡ decimals)) }
 {
-    if digits <= 255 && decimals <= 255 {
-        Picture::new(digits as u8, decimals as u8)
-    } else {
-        None
-    }
-}
-
-fn number_has_columns(digits: u16, decimals: u16, edit: Option<EditCode>, end: u16) -> bool
-    ensures { result ≡ has_columns (Number digits decimals) edit end }
-{
-    match picture(digits, decimals) {
-        Some(p) => image_width(p, edit) as u16 <= end,
-        None => false,
-    }
+    Picture::new(u8::try_from(digits).ok()?, u8::try_from(decimals).ok()?)
 }
 
 // The columns of a field that end in a column do not begin left of column 1.
@@ -167,7 +146,9 @@ fn has_columns(shape: Shape, edit: Option<EditCode>, end: u16) -> bool
     ensures { result ≡ has_columns shape edit end }
 {
     match shape {
-        Shape::Number { digits, decimals } => number_has_columns(digits, decimals, edit, end),
+        Shape::Number { digits, decimals } => {
+            picture(digits, decimals).is_some_and(|p| image_width(p, edit) as u16 <= end)
+        }
         Shape::Text { length } => length <= end,
     }
 }
@@ -186,19 +167,13 @@ fn tell_shape(shape: Shape, edit: Option<EditCode>, end: u16) -> Option<Breach>
 fn knows(fields: &FieldTable, name: Option<Name>) -> bool
     ensures { result ≡ knows (fields_of fields.now) name }
 {
-    match name {
-        Some(name) => fields.find(&name).is_some(),
-        None => true,
-    }
+    name.as_ref().is_none_or(|name| fields.find(name).is_some())
 }
 
 fn shape_in(fields: &FieldTable, name: Option<Name>) -> Option<Shape>
     ensures { result ≡ option_map (shape_of (fields_of fields.now)) name }
 {
-    match name {
-        Some(name) => Some(fields.shape(&name)),
-        None => None,
-    }
+    name.as_ref().map(|name| fields.shape(name))
 }
 
 // The shape of a second factor, if there is one.
@@ -230,8 +205,8 @@ fn tell_unknown_entries(fields: &FieldTable, c: &CalculationCard) -> Option<Brea
 fn tell_unknowns(fields: &FieldTable, card: &DeckCard) -> Option<Breach>
     ensures { result ≡ unknowns (fields_of fields.now) card.now }
 {
-    match *card {
-        DeckCard::Calculation(c) => tell_unknown_entries(fields, &c),
+    match card {
+        DeckCard::Calculation(c) => tell_unknown_entries(fields, c),
         DeckCard::OutputField(o) => rule(
             Refusal::Unknown,
             32,
@@ -257,20 +232,20 @@ fn tell_printed(fields: &FieldTable, printed: Printed, end: u16) -> Option<Breac
 fn tell_calculation(fields: &FieldTable, c: &CalculationCard) -> Option<Breach>
     ensures { result ≡ kinds (fields_of fields.now) (Calculation c.now) }
 {
-    tell_operation(
-        c.operation,
-        shape_in(fields, c.factor1),
-        factor_shape(fields, c.factor2),
-        shape_in(fields, c.result),
-    )
+    let shapes = Shapes {
+        factor1: shape_in(fields, c.factor1),
+        factor2: factor_shape(fields, c.factor2),
+        result: shape_in(fields, c.result),
+    };
+    shapes.tell(c.operation)
 }
 
 // An entry of a wrong kind.
 fn tell_kinds(fields: &FieldTable, card: &DeckCard) -> Option<Breach>
     ensures { result ≡ kinds (fields_of fields.now) card.now }
 {
-    match *card {
-        DeckCard::Calculation(c) => tell_calculation(fields, &c),
+    match card {
+        DeckCard::Calculation(c) => tell_calculation(fields, c),
         DeckCard::OutputField(o) => tell_printed(fields, o.printed, o.end),
         _ => None,
     }

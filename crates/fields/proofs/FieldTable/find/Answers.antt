@@ -6,5 +6,5 @@ use Rattle.fields.proofs.FieldTable.find.Goals as goal
 
 pub returns : goal.returns
 returns c =
-    c.first_equal.ensures.first ∙ ap (first_of _) c.as_slice.ensures.value
+    c.first_equal.ensures.place ∙ ap (first_of _) c.as_slice.ensures.value
     ∙ sym (first_of-map (λ y. bytes_eq y c.args.name.now) (λ d. d.name) (vec_items c.args.self.now.definitions))
