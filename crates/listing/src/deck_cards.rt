@@ -36,7 +36,7 @@ impl<F> From<AllocError> for TakeError<F> {
 fn is_mark(card: &Card) -> bool
     ensures { result ≡ is_mark card.now }
 {
-    card.columns[0] == b'/' && card.columns[1] == b'*' && is_blank(entry(card, 3, 80))
+    card.columns.starts_with(b"/*") && is_blank(entry(card, 3, 80))
 }
 
 // Takes the cards of a deck from a hopper, and puts their bytes behind others.

@@ -1,3 +1,4 @@
 mod Trims
 mod Bodies
 mod Cuts
+mod Numerals

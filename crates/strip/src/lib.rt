@@ -26,7 +26,8 @@ pub use laws::longest_line;
 // The most bytes that a line takes: three digits, a comma, a digit, a comma, 132 characters and a line end.
 const LONGEST: usize = 139;
 
-// A printer that writes its lines one after another as text. The lines not torn off stand from `first` on.
+// A printer that writes its lines one after another as text. The lines not torn off stand from `first` on: a queue
+// would not give them as one slice, which a program writes at once.
 #[derive(Drop)]
 pub struct Strip {
     held: Vec<u8>,

@@ -44,12 +44,10 @@ fn read_number(bytes: &[u8]) -> u16
     let a = digit_at(bytes, 0) as u16;
     let b = digit_at(bytes, 1) as u16;
     let c = digit_at(bytes, 2) as u16;
-    if at(bytes, 1) == b',' {
-        a
-    } else if at(bytes, 2) == b',' {
-        a * 10 + b
-    } else {
-        a * 100 + b * 10 + c
+    match digit_count(bytes) {
+        1 => a,
+        2 => a * 10 + b,
+        _ => a * 100 + b * 10 + c,
     }
 }
 

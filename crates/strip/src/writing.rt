@@ -5,6 +5,7 @@ ghost use Rattle.strip.specs.Strips.{numeral, trimmed, rendered};
 ghost use Rattle.strip.specs.StripSteps.{Adds};
 
 use devices::Line;
+use itoa::Buffer;
 
 // Adds bytes for which there is room.
 fn add(held: &mut Vec<u8>, bytes: &[u8])
@@ -15,22 +16,14 @@ fn add(held: &mut Vec<u8>, bytes: &[u8])
 }
 
 // Adds a number, without zeros before it.
+#[tactic(auto, using(crate::proofs::Numerals::decimal_is))]
 fn add_number(held: &mut Vec<u8>, n: u16)
     requires small { n < 1000 }
     requires room { vec_len held.old + length (numeral n) ≤ vec_capacity held.old }
     ensures { Adds held.old (numeral n) held.new }
 {
-    let ones = b'0' + (n % 10) as u8;
-    if n < 10 {
-        add(held, &[b'0' + n as u8]);
-    } else if n < 100 {
-        add(held, &[b'0' + (n / 10) as u8, ones]);
-    } else {
-        add(
-            held,
-            &[b'0' + (n / 100) as u8, b'0' + (n / 10 % 10) as u8, ones],
-        );
-    }
+    let mut buffer = Buffer::new();
+    add(held, buffer.format(n).as_bytes());
 }
 
 // Text without its trailing blanks.
