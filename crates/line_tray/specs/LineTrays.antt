@@ -1,6 +1,6 @@
 -- What a line tray means.
 use Rattle.std.specs.Prelude.{◌≡◌, ℕ, ◌≤◌, Bool, List, [], map, length, Ok, Err, Result, nat_lt}
-use Rattle.std.specs.VecDeque.{deque_items}
+use Rattle.std.specs.VecDeque.{deque_items, deque_capacity}
 use Rattle.line_tray.specs.declared.LineTray.{LineTray}
 use Rattle.devices.specs.declared.refusal.Refusal.{Refusal}
 use Rattle.devices.specs.declared.refusal.Refusal.TheVariants.{Small, NoRoom, NoLine, NoMemory}
@@ -13,7 +13,7 @@ tray_lines t = map meant (deque_items t.held)
 
 -- how many it can hold
 abbrev pub tray_places : LineTray → ℕ
-tray_places t = t.places
+tray_places t = deque_capacity t.held
 
 -- it has room while fewer lines are held than it has places
 abbrev pub tray_room : LineTray → Bool

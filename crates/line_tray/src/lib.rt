@@ -6,18 +6,13 @@
 // This crate knows printers and lines. It may not know what makes a line, nor who tears it off.
 #![tactic(auto)]
 
-ghost use Rattle.std.specs.Prelude.{◌≤◌};
-ghost use Rattle.std.specs.VecDeque.{deque_capacity};
-
 use devices::Line;
 use std::collections::VecDeque;
 
 mod printing;
 
-// A printer that holds lines in a fixed number of places, all taken from memory when it is made.
+// A printer that holds lines in a fixed number of places, all taken from memory when it is made: the queue's capacity.
 #[derive(Drop)]
 pub struct LineTray {
     held: VecDeque<Line>,
-    places: usize,
-    ghost reserved: { places ≤ deque_capacity held },
 }

@@ -18,7 +18,7 @@ impl LineTray {
             return Err(Refusal::Small);
         }
         let held = VecDeque::with_capacity(heap, places)?;
-        Ok(LineTray { held, places })
+        Ok(LineTray { held })
     }
 }
 
@@ -28,7 +28,7 @@ impl Printer for LineTray {
     ghost room = { tray_room };
 
     fn has_room(&self) -> bool {
-        self.held.len() < self.places
+        self.held.len() < self.held.capacity()
     }
 
     fn print(&mut self, line: &Line) -> Result<(), Refusal>

@@ -85,17 +85,10 @@ fn refuse(rt: &HostRuntime, cards: &[u8], error: ReadError) -> io::Result<()> {
 }
 
 fn print_refusal(rt: &HostRuntime, told: Option<Numbers>) -> io::Result<()> {
-    let Some(
-        Numbers {
-            number,
-            card,
-            column,
-        },
-    ) = told
-    else {
-        return Ok(());
-    };
-    println!(rt; "deck,{number},{card},{column}")
+    match told {
+        Some(told) => println!(rt; "deck,{},{},{}", told.number, told.card, told.column),
+        None => Ok(()),
+    }
 }
 
 // A line that is longer than a card makes no deck of whole cards.
@@ -157,14 +150,9 @@ fn tell_stop(
     stop: Stop,
     last: Result<Listed, ListError<LongLine>>,
 ) -> io::Result<()> {
-    let Stop {
-        number,
-        cards,
-        column,
-    } = stop;
-    println!(rt; "stop,{number},{cards},{column}")?;
+    println!(rt; "stop,{},{},{}", stop.number, stop.cards, stop.column)?;
     match last {
-        Err(ListError::Column(bad)) => telling::tell_byte(rt, cards as usize, bad),
+        Err(ListError::Column(bad)) => telling::tell_byte(rt, stop.cards as usize, bad),
         Err(ListError::Fault(long)) => telling::tell_line(rt, "", long),
         Ok(_) => Ok(()),
     }

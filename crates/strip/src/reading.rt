@@ -37,7 +37,7 @@ fn digit_count(bytes: &[u8]) -> usize
     }
 }
 
-// The number before the first comma.
+// The number before the first comma. Any bytes are read, where the library's `parse` asks for text and for digits.
 fn read_number(bytes: &[u8]) -> u16
     ensures { result ≡ read_number bytes.now }
 {
