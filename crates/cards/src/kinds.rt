@@ -91,6 +91,7 @@ pub type Codes = Three<Code>;
 pub type Conditions = Three<Condition>;
 
 // The indicators that tell of a field or a result: plus, minus, zero. A comparison tells high, low, equal by them.
+// Its fields have names of their own, which `Three` would not say.
 #[derive(Clone, Copy, PartialEq, Eq, Debug)]
 pub struct Told {
     pub plus: Option<Indicator>,

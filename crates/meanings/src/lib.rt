@@ -91,6 +91,7 @@ fn conditions(card: &Card, from: u8) -> Conditions
     requires { from ≤ 72 }
     ensures { result ≡ conditions_in card.now.columns from }
 {
+    // A closure: tried by its name, a function of another crate's private module got no proof.
     three(card, from, 3, |s| condition(s))
 }
 
