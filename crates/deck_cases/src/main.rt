@@ -16,7 +16,6 @@ use std::io::Read;
 use tables::show_deck;
 
 mod tables;
-mod words;
 
 fn main(rt: HostRuntime) -> anyhow::Result<()> {
     let mut text = Vec::new(rt.alloc());
@@ -81,7 +80,7 @@ fn refuse(rt: &HostRuntime, told: Option<Numbers>) -> io::Result<()> {
     let Some(told) = told else {
         return rt.println("no memory");
     };
-    rt.println(Row(&[
+    rt.println(Row::<_, b','>(&[
         Cell::Word("deck"),
         Cell::Count(told.number as usize),
         Cell::Count(told.card),

@@ -1,12 +1,10 @@
 // What a table holds, line by line.
-use crate::words::{edit, flag, kind, operation};
-use cards::kinds::{Code, Shape};
 use deck::actions::Actions;
 use deck::deck::Deck;
 use deck::definitions::Definitions;
 use deck::kinds::{Calculation, Input, Operand, Output, OutputRecord, Part, RecordType, Source};
 use fields::FieldTable;
-use shown::{Cell, CodeText, PrintedText, Row, SizeText};
+use shown::{Cell, PrintedText, Row};
 use std::io;
 
 // Prints what the table of a deck holds.
@@ -22,20 +20,13 @@ pub fn show_deck(rt: &HostRuntime, deck: &Deck) -> io::Result<()> {
 
 fn show_fields(rt: &HostRuntime, fields: &FieldTable) -> io::Result<()> {
     for field in &fields.definitions {
-        rt.println(Row(&[
+        rt.println(Row::<_, b','>(&[
             Cell::Word("field"),
             Cell::Name(field.name),
-            size(field.shape),
+            Cell::Size(field.shape),
         ]))?;
     }
     Ok(())
-}
-
-fn size<'a>(shape: Shape) -> Cell<'a> {
-    match shape {
-        Shape::Number { digits, decimals } => Cell::Size(SizeText::Number(digits, decimals)),
-        Shape::Text { length } => Cell::Size(SizeText::Text(length)),
-    }
 }
 
 // Each record type, and behind it its inputs.
@@ -48,29 +39,18 @@ fn show_types(rt: &HostRuntime, d: &Definitions) -> io::Result<()> {
 }
 
 fn show_type(rt: &HostRuntime, t: &RecordType) -> io::Result<()> {
-    rt.println(Row(&[
+    rt.println(Row::<_, b','>(&[
         Cell::Word("type"),
         Cell::Indicator(Some(t.indicator)),
-        code(t.codes.first),
-        code(t.codes.second),
-        code(t.codes.third),
+        Cell::Code(t.codes.first),
+        Cell::Code(t.codes.second),
+        Cell::Code(t.codes.third),
     ]))
-}
-
-fn code<'a>(code: Option<Code>) -> Cell<'a> {
-    match code {
-        None => Cell::Word("-"),
-        Some(c) => Cell::Code(CodeText {
-            position: c.position,
-            negated: c.negated,
-            character: c.character,
-        }),
-    }
 }
 
 fn show_inputs(rt: &HostRuntime, inputs: &[Input]) -> io::Result<()> {
     for input in inputs {
-        rt.println(Row(&[
+        rt.println(Row::<_, b','>(&[
             Cell::Word("input"),
             Cell::Count(input.field),
             Cell::Count(input.from as usize),
@@ -89,18 +69,18 @@ fn show_calculations(
     calculations: &[Calculation],
 ) -> io::Result<()> {
     for c in calculations {
-        rt.println(Row(&[
+        rt.println(Row::<_, b','>(&[
             Cell::Word("calc"),
             Cell::Count(c.card),
             Cell::Indicator(c.level),
             Cell::Condition(c.conditions.first),
             Cell::Condition(c.conditions.second),
             Cell::Condition(c.conditions.third),
-            Cell::Word(operation(c.operation)),
+            Cell::Operation(c.operation),
             Cell::Place(c.factor1),
             factor(text, c.factor2),
             Cell::Place(c.result),
-            Cell::Word(flag(c.half_adjust, "H")),
+            Cell::Mark(c.half_adjust.then_some("H")),
             Cell::Indicator(c.told.plus),
             Cell::Indicator(c.told.minus),
             Cell::Indicator(c.told.zero),
@@ -111,7 +91,7 @@ fn show_calculations(
 
 fn factor(text: &[u8], factor: Operand) -> Cell<'_> {
     match factor {
-        Operand::Absent => Cell::Word("-"),
+        Operand::Absent => Cell::Mark(None),
         Operand::Field(i) => Cell::Count(i),
         Operand::Number(literal) => Cell::Literal(literal),
         Operand::Text(part) => quoted(text, part),
@@ -134,10 +114,10 @@ fn show_lines(rt: &HostRuntime, text: &[u8], a: &Actions) -> io::Result<()> {
 }
 
 fn show_line(rt: &HostRuntime, r: &OutputRecord) -> io::Result<()> {
-    rt.println(Row(&[
+    rt.println(Row::<_, b','>(&[
         Cell::Word("line"),
         Cell::Count(r.card),
-        Cell::Word(kind(r.kind)),
+        Cell::Line(r.kind),
         Cell::Count(r.spacing as usize),
         Cell::Condition(r.conditions.first),
         Cell::Condition(r.conditions.second),
@@ -147,7 +127,7 @@ fn show_line(rt: &HostRuntime, r: &OutputRecord) -> io::Result<()> {
 
 fn show_outputs(rt: &HostRuntime, text: &[u8], outputs: &[Output]) -> io::Result<()> {
     for o in outputs {
-        rt.println(Row(&[
+        rt.println(Row::<_, b','>(&[
             Cell::Word("print"),
             Cell::Condition(o.conditions.first),
             Cell::Condition(o.conditions.second),
@@ -163,12 +143,12 @@ fn source(text: &[u8], source: Source) -> Cell<'_> {
     match source {
         Source::Field {
             field,
-            edit: code,
+            edit,
             blank_after,
         } => Cell::Printed(PrintedText {
             field,
-            edit: edit(code),
-            clears: flag(blank_after, "B"),
+            edit,
+            clears: blank_after,
         }),
         Source::Constant(part) => quoted(text, part),
     }

@@ -1,8 +1,9 @@
 // Every operation on every pair of amounts, into every result.
 use crate::answers::answer;
 use crate::cases::{AMOUNTS, RESULTS};
-use crate::row::{Cell, Row};
+use crate::row::Cell;
 use numbers::{Amount, Picture, Rounding, Target};
+use shown::Row;
 use std::cmp::Ordering;
 use std::io;
 
@@ -32,7 +33,7 @@ fn with_each(rt: &HostRuntime, a: Placed) -> io::Result<()> {
 }
 
 fn order(rt: &HostRuntime, a: Placed, b: Placed) -> io::Result<()> {
-    rt.println(Row(&[
+    rt.println(Row::<_, b' '>(&[
         Cell::Word("compare"),
         Cell::Place(a.place),
         Cell::Place(b.place),
@@ -63,7 +64,7 @@ fn four(rt: &HostRuntime, a: Placed, b: Placed, k: usize, into: Target) -> io::R
         Rounding::Cut => "cut",
         Rounding::HalfAdjust => "half",
     };
-    rt.println(Row(&[
+    rt.println(Row::<_, b' '>(&[
         Cell::Place(a.place),
         Cell::Place(b.place),
         Cell::Place(k),
@@ -86,7 +87,7 @@ fn from_zero(rt: &HostRuntime, a: Placed) -> io::Result<()> {
         rounding: Rounding::Cut,
     };
     let zero = Amount::zero(picture);
-    rt.println(Row(&[
+    rt.println(Row::<_, b' '>(&[
         Cell::Word("zero"),
         Cell::Place(a.place),
         answer(zero.add(a.amount, into)),

@@ -1,7 +1,8 @@
 // Edit codes, the images of each, and laying one into a line.
-use crate::row::{Cell, Row, text};
+use crate::row::Cell;
 use images::{EditCode, EditStyle, Image, LINE_COLUMNS, LayError, SignStyle, image_width};
 use numbers::{Amount, Picture};
+use shown::{BytesText, Row};
 use std::io;
 
 const CODES: [EditCode; 8] = [
@@ -26,7 +27,7 @@ pub fn codes(rt: &HostRuntime) -> io::Result<()> {
 }
 
 fn asks(rt: &HostRuntime, byte: u8, style: EditStyle) -> io::Result<()> {
-    rt.println(Row(&[
+    rt.println(Row::<_, b' '>(&[
         Cell::Word("code"),
         Cell::Number(i64::from(byte)),
         Cell::Number(i64::from(style.commas)),
@@ -49,7 +50,7 @@ pub fn images(rt: &HostRuntime) -> io::Result<()> {
 }
 
 fn widths(rt: &HostRuntime, picture: Picture) -> io::Result<()> {
-    rt.print(Row(&[
+    rt.print(Row::<_, b' '>(&[
         Cell::Word("width"),
         Cell::Number(i64::from(picture.digits)),
         Cell::Number(i64::from(picture.decimals)),
@@ -74,7 +75,7 @@ fn values(rt: &HostRuntime, picture: Picture) -> io::Result<()> {
 }
 
 fn each(rt: &HostRuntime, amount: Amount) -> io::Result<()> {
-    rt.print(Row(&[
+    rt.print(Row::<_, b' '>(&[
         Cell::Word("image"),
         Cell::Number(i64::from(amount.picture.digits)),
         Cell::Number(i64::from(amount.picture.decimals)),
@@ -90,7 +91,7 @@ fn each(rt: &HostRuntime, amount: Amount) -> io::Result<()> {
 
 // An image and a bar behind it.
 fn barred(rt: &HostRuntime, image: Image) -> io::Result<()> {
-    let text = text(image.bytes());
+    let text = BytesText(image.bytes());
     print!(rt; "{text}|")
 }
 
@@ -116,7 +117,7 @@ fn line(rt: &HostRuntime, image: Image, end: u8) -> io::Result<()> {
         Err(LayError::End) => "end",
         Err(LayError::Start) => "start",
     };
-    rt.println(Row(&[
+    rt.println(Row::<_, b' '>(&[
         Cell::Word("lay"),
         Cell::Number(i64::from(end)),
         Cell::Word(laid),

@@ -1,8 +1,9 @@
 // Making pictures and amounts, and reading amounts from columns.
 use crate::answers::answer;
 use crate::cases::FIELDS;
-use crate::row::{Cell, Row};
+use crate::row::Cell;
 use numbers::{Amount, Picture};
+use shown::Row;
 use std::io;
 
 // Every picture, with those of three counts that it holds.
@@ -19,7 +20,7 @@ pub fn pictures(rt: &HostRuntime) -> io::Result<()> {
 
 // The widest count of a picture, and the two next to it that are too wide.
 fn counts(rt: &HostRuntime, picture: Picture) -> io::Result<()> {
-    rt.print(Row(&[
+    rt.print(Row::<_, b' '>(&[
         Cell::Word("picture"),
         Cell::Number(i64::from(picture.digits)),
         Cell::Number(i64::from(picture.decimals)),
@@ -49,16 +50,16 @@ pub fn all_bytes(rt: &HostRuntime) -> io::Result<()> {
 fn in_both(rt: &HostRuntime, byte: u8, picture: Picture) -> io::Result<()> {
     let n = Cell::Number(i64::from(byte));
     let last = answer(Amount::read(&[b'1', b'2', byte], 70, picture));
-    rt.println(Row(&[Cell::Word("last"), n, last]))?;
+    rt.println(Row::<_, b' '>(&[Cell::Word("last"), n, last]))?;
     let front = answer(Amount::read(&[b'1', byte, b'3'], 255, picture));
-    rt.println(Row(&[Cell::Word("front"), n, front]))
+    rt.println(Row::<_, b' '>(&[Cell::Word("front"), n, front]))
 }
 
 // Fields of several widths.
 pub fn fields(rt: &HostRuntime) -> io::Result<()> {
     for (i, field) in FIELDS.iter().enumerate() {
         if let Some(picture) = Picture::new(field.digits, 0) {
-            rt.println(Row(&[
+            rt.println(Row::<_, b' '>(&[
                 Cell::Word("read"),
                 Cell::Place(i),
                 answer(Amount::read(field.columns, 4, picture)),

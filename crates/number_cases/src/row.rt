@@ -1,6 +1,7 @@
-// Rows: cells that are parted by blanks.
+// What stands between two blanks of a row.
+use shown::BytesText;
 use std::fmt;
-use std::str::from_utf8;
+use std::fmt::Display;
 
 #[derive(Clone, Copy)]
 pub enum Cell<'a> {
@@ -23,31 +24,7 @@ impl fmt::Display for Cell<'_> {
             Cell::Place(i) => i.fmt(f),
             Cell::Stop(number) => write!(f, "stop{number}"),
             Cell::Column(column) => write!(f, "column {column}"),
-            Cell::Text(bytes) => f.write_str(text(bytes)),
+            Cell::Text(bytes) => BytesText(bytes).fmt(f),
         }
-    }
-}
-
-// Bytes as text, and a question mark where they are none.
-pub fn text(bytes: &[u8]) -> &str {
-    match from_utf8(bytes) {
-        Ok(text) => text,
-        Err(_) => "?",
-    }
-}
-
-// Cells that are parted by blanks.
-#[derive(Clone, Copy)]
-pub struct Row<'r, 'c>(pub &'r [Cell<'c>]);
-
-impl fmt::Display for Row<'_, '_> {
-    fn fmt<W: fmt::Write>(&self, f: &mut fmt::Formatter<W>) -> fmt::Result {
-        for (i, cell) in self.0.iter().enumerate() {
-            if i > 0 {
-                f.write_str(" ")?;
-            }
-            cell.fmt(f)?;
-        }
-        Ok(())
     }
 }

@@ -16,7 +16,7 @@ pub(crate) fn show(rt: &HostRuntime, deck: &Deck) -> io::Result<()> {
 // All cards, and how many of them are input records, input fields, detail and total calculations, output records and
 // output fields; the others are comments.
 fn show_cards(rt: &HostRuntime, deck: &Deck) -> io::Result<()> {
-    rt.println(Row(&[
+    rt.println(Row::<_, b','>(&[
         Cell::Word("cards"),
         Cell::Count(deck.text.len() / 80),
         Cell::Count(deck.definitions.types.len()),
@@ -31,7 +31,7 @@ fn show_cards(rt: &HostRuntime, deck: &Deck) -> io::Result<()> {
 // Each record type, by its indicator, with its number of fields.
 fn show_types(rt: &HostRuntime, d: &Definitions) -> io::Result<()> {
     for (i, t) in d.types.iter().enumerate() {
-        rt.println(Row(&[
+        rt.println(Row::<_, b','>(&[
             Cell::Word("type"),
             Cell::Indicator(Some(t.indicator)),
             Cell::Count(d.inputs_of(i).len()),
@@ -52,12 +52,12 @@ fn show_field(rt: &HostRuntime, field: &Definition) -> io::Result<()> {
     let word = Cell::Word("field");
     let name = Cell::Name(field.name);
     match field.shape {
-        Shape::Number { digits, decimals } => rt.println(Row(&[
+        Shape::Number { digits, decimals } => rt.println(Row::<_, b','>(&[
             word,
             name,
             Cell::Count(digits as usize),
             Cell::Count(decimals as usize),
         ])),
-        Shape::Text { length } => rt.println(Row(&[word, name, Cell::Count(length as usize)])),
+        Shape::Text { length } => rt.println(Row::<_, b','>(&[word, name, Cell::Count(length as usize)])),
     }
 }

@@ -3,6 +3,7 @@
 use cards::kinds::{Kind, What};
 use cards::layouts::layout;
 use cards::tells::kind_of;
+use columns::filling::blank_filled;
 use deck::kinds::Breach;
 use devices::Card;
 use hoppers::LongLine;
@@ -13,29 +14,14 @@ use std::io;
 
 // The bytes of a card, as far as they are there.
 fn card_text(text: &[u8], number: usize) -> &[u8] {
-    let from = number.saturating_sub(1).saturating_mul(80).min(text.len());
-    let to = from.saturating_add(80).min(text.len());
-    if from <= to {
-        &text[from..to]
-    } else {
-        &text[0..0]
-    }
-}
-
-fn card_of(bytes: &[u8]) -> Card {
-    let mut columns = [b' '; 80];
-    for (i, b) in bytes.iter().enumerate() {
-        if i < 80 {
-            columns[i] = *b;
-        }
-    }
-    Card { columns }
+    text.chunks(80).nth(number.saturating_sub(1)).unwrap_or(&[])
 }
 
 // Says on standard error what a person needs to mend a deck.
 pub(crate) fn tell(rt: &HostRuntime, text: &[u8], breach: &Breach) -> io::Result<()> {
     let bytes = card_text(text, breach.card);
-    let kind = kind_of(&card_of(bytes));
+    let columns = blank_filled(bytes);
+    let kind = kind_of(&Card { columns });
     let sentence = sentence(breach.refusal, kind, breach.column);
     if breach.card == 0 {
         return eprintln!(rt; "report: the deck is refused: {sentence}");
@@ -113,12 +99,10 @@ fn wrong_kind(column: u8) -> &'static str {
 
 // The rule of the entry that a column belongs to.
 fn punch(kind: Kind, column: u8) -> &'static str {
-    for rule in layout(kind) {
-        if rule.from <= column && column <= rule.to {
-            return may_hold(rule.what);
-        }
-    }
-    "this column may not be punched so"
+    layout(kind)
+        .iter()
+        .find(|rule| (rule.from..=rule.to).contains(&column))
+        .map_or("this column may not be punched so", |rule| may_hold(rule.what))
 }
 
 // What may stand in an entry.

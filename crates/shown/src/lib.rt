@@ -8,4 +8,4 @@ mod texts;
 
 pub use parts::{CodeText, LiteralText, PrintedText, SizeText};
 pub use row::{Cell, Row};
-pub use texts::{BytesText, ConditionText, IndicatorText, NameText};
+pub use texts::{BytesText, ConditionText, IndicatorText, NameText, OrDash};

@@ -1,19 +1,19 @@
 // Cells that are made of several parts.
+use crate::texts::OrDash;
+use cards::kinds::{Code, Shape};
 use columns::kinds::Literal;
+use images::EditCode;
 use std::fmt;
 
 // The size of a field: a number's digits and decimals, as `n5.2`, or the length of a text, as `a12`.
 #[derive(Clone, Copy)]
-pub enum SizeText {
-    Number(u16, u16),
-    Text(u16),
-}
+pub struct SizeText(pub Shape);
 
 impl fmt::Display for SizeText {
     fn fmt<W: fmt::Write>(&self, f: &mut fmt::Formatter<W>) -> fmt::Result {
-        match *self {
-            SizeText::Number(digits, decimals) => write!(f, "n{digits}.{decimals}"),
-            SizeText::Text(length) => write!(f, "a{length}"),
+        match self.0 {
+            Shape::Number { digits, decimals } => write!(f, "n{digits}.{decimals}"),
+            Shape::Text { length } => write!(f, "a{length}"),
         }
     }
 }
@@ -33,17 +33,13 @@ impl fmt::Display for LiteralText {
 
 // A character at a position, as `12CS`, or any other character there, as `12NCS`.
 #[derive(Clone, Copy)]
-pub struct CodeText {
-    pub position: u16,
-    pub negated: bool,
-    pub character: u8,
-}
+pub struct CodeText(pub Code);
 
 impl fmt::Display for CodeText {
     fn fmt<W: fmt::Write>(&self, f: &mut fmt::Formatter<W>) -> fmt::Result {
-        let position = self.position;
-        let n = if self.negated { "N" } else { "" };
-        let c = char::from(self.character);
+        let position = self.0.position;
+        let n = if self.0.negated { "N" } else { "" };
+        let c = char::from(self.0.character);
         write!(f, "{position}{n}C{c}")
     }
 }
@@ -52,15 +48,15 @@ impl fmt::Display for CodeText {
 #[derive(Clone, Copy)]
 pub struct PrintedText {
     pub field: usize,
-    pub edit: &'static str,
-    pub clears: &'static str,
+    pub edit: Option<EditCode>,
+    pub clears: bool,
 }
 
 impl fmt::Display for PrintedText {
     fn fmt<W: fmt::Write>(&self, f: &mut fmt::Formatter<W>) -> fmt::Result {
         let field = self.field;
-        let edit = self.edit;
-        let clears = self.clears;
+        let edit = OrDash(self.edit);
+        let clears = OrDash(self.clears.then_some("B"));
         write!(f, "{field}/{edit}/{clears}")
     }
 }

@@ -1,18 +1,31 @@
 // Indicators, conditions, names and bytes as a person reads them.
 use columns::kinds::{Condition, Indicator, Name};
 use std::fmt;
+use std::fmt::Display;
 
-// An indicator by its two characters, and a dash for none.
+// What may be absent, and a dash where it is.
 #[derive(Clone, Copy)]
-pub struct IndicatorText(pub Option<Indicator>);
+pub struct OrDash<T>(pub Option<T>);
+
+impl<T: Display> fmt::Display for OrDash<T> {
+    fn fmt<W: fmt::Write>(&self, f: &mut fmt::Formatter<W>) -> fmt::Result {
+        match &self.0 {
+            Some(present) => present.fmt(f),
+            None => f.write_str("-"),
+        }
+    }
+}
+
+// An indicator by its two characters.
+#[derive(Clone, Copy)]
+pub struct IndicatorText(pub Indicator);
 
 impl fmt::Display for IndicatorText {
     fn fmt<W: fmt::Write>(&self, f: &mut fmt::Formatter<W>) -> fmt::Result {
         match self.0 {
-            None => f.write_str("-"),
-            Some(110) => f.write_str("LR"),
-            Some(111) => f.write_str("1P"),
-            Some(n) => {
+            110 => f.write_str("LR"),
+            111 => f.write_str("1P"),
+            n => {
                 if n >= 100 {
                     let level = n - 100;
                     write!(f, "L{level}")
@@ -24,21 +37,16 @@ impl fmt::Display for IndicatorText {
     }
 }
 
-// A condition by its indicator, with an `N` before it where that has to be off, and a dash for none.
+// A condition by its indicator, with an `N` before it where that has to be off.
 #[derive(Clone, Copy)]
-pub struct ConditionText(pub Option<Condition>);
+pub struct ConditionText(pub Condition);
 
 impl fmt::Display for ConditionText {
     fn fmt<W: fmt::Write>(&self, f: &mut fmt::Formatter<W>) -> fmt::Result {
-        match self.0 {
-            None => f.write_str("-"),
-            Some(c) => {
-                if c.negated {
-                    f.write_str("N")?;
-                }
-                IndicatorText(Some(c.indicator)).fmt(f)
-            }
+        if self.0.negated {
+            f.write_str("N")?;
         }
+        IndicatorText(self.0.indicator).fmt(f)
     }
 }
 
@@ -48,10 +56,8 @@ pub struct NameText(pub Name);
 
 impl fmt::Display for NameText {
     fn fmt<W: fmt::Write>(&self, f: &mut fmt::Formatter<W>) -> fmt::Result {
-        for b in self.0.iter() {
-            if *b != b' ' {
-                f.write_char(char::from(*b))?;
-            }
+        for b in self.0.iter().filter(|b| **b != b' ') {
+            f.write_char(char::from(*b))?;
         }
         Ok(())
     }
