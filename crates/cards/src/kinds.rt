@@ -119,7 +119,6 @@ pub struct FieldCard {
 // The second factor of a calculation. Of an alphameric literal the card keeps the length: its bytes stay in the deck.
 #[derive(Clone, Copy, PartialEq, Eq, Debug)]
 pub enum Factor {
-    Absent,
     Field(Name),
     Number(Literal),
     Text { length: usize },
@@ -132,7 +131,7 @@ pub struct CalculationCard {
     pub conditions: Conditions,
     pub factor1: Option<Name>,
     pub operation: Option<Operation>,
-    pub factor2: Factor,
+    pub factor2: Option<Factor>,
     pub result: Option<Name>,
     pub shape: Option<Shape>,
     pub half_adjust: bool,

@@ -52,7 +52,6 @@ part_behind k column n = record { at = 80 * k + column; length = n }
 
 -- a text literal begins behind the apostrophe in column 33 of the card at place k, a constant behind that in column 45
 abbrev pub operand_of : Fields → ℕ → Factor → Operand
-operand_of f k factor.Absent = operand.Absent
 operand_of f k (factor.Field n) = operand.Field (place_of f n)
 operand_of f k (factor.Number l) = operand.Number l
 operand_of f k (factor.Text n) = operand.Text (part_behind k 33 n)
@@ -68,7 +67,7 @@ calculation_of f k c = record {
   conditions = c.conditions;
   operation = c.operation;
   factor1 = option_map (place_of f) c.factor1;
-  factor2 = operand_of f k c.factor2;
+  factor2 = option_map (operand_of f k) c.factor2;
   result = option_map (place_of f) c.result;
   half_adjust = c.half_adjust;
   told = c.told;

@@ -43,7 +43,6 @@ impl<'a> Lookup<'a> {
         ensures { result ≡ operand_of (fields_of self.now.fields.now) self.now.place factor }
     {
         match factor {
-            Factor::Absent => Operand::Absent,
             Factor::Field(name) => Operand::Field(self.fields.place(&name)),
             Factor::Number(literal) => Operand::Number(literal),
             Factor::Text { length } => Operand::Text(Part::behind(self.place, 33, length)),
@@ -78,7 +77,7 @@ impl<'a> Lookup<'a> {
             conditions: c.conditions,
             operation: c.operation,
             factor1: self.field(c.factor1),
-            factor2: self.operand(c.factor2),
+            factor2: c.factor2.map(|factor| self.operand(factor)),
             result: self.field(c.result),
             half_adjust: c.half_adjust,
             told: c.told,

@@ -40,7 +40,6 @@ pub struct Part {
 // The second factor of a calculation: a field by its place, a number, or a part of the deck's text.
 #[derive(Clone, Copy)]
 pub enum Operand {
-    Absent,
     Field(usize),
     Number(Literal),
     Text(Part),
@@ -54,7 +53,7 @@ pub struct Calculation {
     pub conditions: Conditions,
     pub operation: Option<Operation>,
     pub factor1: Option<usize>,
-    pub factor2: Operand,
+    pub factor2: Option<Operand>,
     pub result: Option<usize>,
     pub half_adjust: bool,
     pub told: Told,

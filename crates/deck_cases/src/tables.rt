@@ -89,12 +89,12 @@ fn show_calculations(
     Ok(())
 }
 
-fn factor(text: &[u8], factor: Operand) -> Cell<'_> {
+fn factor(text: &[u8], factor: Option<Operand>) -> Cell<'_> {
     match factor {
-        Operand::Absent => Cell::Mark(None),
-        Operand::Field(i) => Cell::Count(i),
-        Operand::Number(literal) => Cell::Literal(literal),
-        Operand::Text(part) => quoted(text, part),
+        None => Cell::Mark(None),
+        Some(Operand::Field(i)) => Cell::Count(i),
+        Some(Operand::Number(literal)) => Cell::Literal(literal),
+        Some(Operand::Text(part)) => quoted(text, part),
     }
 }
 

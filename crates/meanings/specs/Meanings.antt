@@ -88,8 +88,8 @@ number_or_text (Some l) length = factor.Number l
 abbrev pub literal_factor : List ℕ → Factor
 literal_factor s = number_or_text (numeric_of s) (text_length (text_of s))
 
-abbrev pub factor_of : List ℕ → Factor
-factor_of s = cond (is_blank s) factor.Absent (cond (is_name s) (factor.Field (name_of s)) (literal_factor s))
+abbrev pub factor_of : List ℕ → Option Factor
+factor_of s = cond (is_blank s) None (Some (cond (is_name s) (factor.Field (name_of s)) (literal_factor s)))
 
 -- the shape of a result, where the card defines it
 abbrev pub result_shape : List ℕ → List ℕ → Option Shape

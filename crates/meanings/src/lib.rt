@@ -149,15 +149,16 @@ fn literal_factor(s: &[u8]) -> Factor
     }
 }
 
-fn factor(s: &[u8]) -> Factor
+// A name, or else a literal, unless the entry is blank.
+fn factor(s: &[u8]) -> Option<Factor>
     ensures { result ≡ factor_of s.now }
 {
     if is_blank(s) {
-        Factor::Absent
+        None
     } else if is_name(s) {
-        Factor::Field(name_of(s))
+        Some(Factor::Field(name_of(s)))
     } else {
-        literal_factor(s)
+        Some(literal_factor(s))
     }
 }
 

@@ -23,11 +23,11 @@ abbrev pub knows : Fields → Option (List ℕ) → Bool
 knows f None = true
 knows f (Some n) = is_known f n
 
-abbrev pub factor_name : Factor → Option (List ℕ)
-factor_name factor.Absent = None
-factor_name (factor.Field n) = Some n
-factor_name (factor.Number l) = None
-factor_name (factor.Text n) = None
+abbrev pub factor_name : Option Factor → Option (List ℕ)
+factor_name None = None
+factor_name (Some (factor.Field n)) = Some n
+factor_name (Some (factor.Number l)) = None
+factor_name (Some (factor.Text n)) = None
 
 abbrev pub printed_name : Printed → Option (List ℕ)
 printed_name (printed.Field n e b) = Some n
@@ -46,11 +46,11 @@ unknowns f (OutputRecord o) = None
 unknowns f (OutputField o) = rule Unknown 32 (knows f (printed_name o.printed))
 
 -- the shape of an entry, if it is filled; only the kind of a text literal is asked, and no bytes stand for its length
-abbrev pub factor_shape : Fields → Factor → Option Shape
-factor_shape f factor.Absent = None
-factor_shape f (factor.Field n) = Some (shape_of f n)
-factor_shape f (factor.Number l) = Some (Number l.digits l.decimals)
-factor_shape f (factor.Text n) = Some (Text 0)
+abbrev pub factor_shape : Fields → Option Factor → Option Shape
+factor_shape f None = None
+factor_shape f (Some (factor.Field n)) = Some (shape_of f n)
+factor_shape f (Some (factor.Number l)) = Some (Number l.digits l.decimals)
+factor_shape f (Some (factor.Text n)) = Some (Text 0)
 
 abbrev pub is_numeric : Shape → Bool
 is_numeric (Number m d) = true

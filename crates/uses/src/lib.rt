@@ -24,11 +24,11 @@ use operations::Operation;
 use rules::{Breach, Refusal, first_of, rule};
 
 // The name in a second factor, if it is one.
-fn factor_name(factor: Factor) -> Option<Name>
+fn factor_name(factor: Option<Factor>) -> Option<Name>
     ensures { result ≡ factor_name factor }
 {
     match factor {
-        Factor::Field(name) => Some(name),
+        Some(Factor::Field(name)) => Some(name),
         _ => None,
     }
 }
@@ -177,11 +177,10 @@ fn shape_in(fields: &FieldTable, name: Option<Name>) -> Option<Shape>
 }
 
 // The shape of a second factor, if there is one.
-fn factor_shape(fields: &FieldTable, factor: Factor) -> Option<Shape>
+fn factor_shape(fields: &FieldTable, factor: Option<Factor>) -> Option<Shape>
     ensures { result ≡ factor_shape (fields_of fields.now) factor }
 {
-    match factor {
-        Factor::Absent => None,
+    match factor? {
         Factor::Field(name) => Some(fields.shape(&name)),
         Factor::Number(l) => Some(Shape::Number {
             digits: l.digits,
