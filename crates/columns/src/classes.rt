@@ -12,15 +12,15 @@ pub fn at(s: &[u8], i: usize) -> u8
     s.get(i).copied().unwrap_or(0)
 }
 
-// What follows the first n bytes.
-pub fn after(s: &[u8], n: usize) -> &[u8]
+// What follows the first n bytes, or other items.
+pub fn after<T>(s: &[T], n: usize) -> &[T]
     ensures { result.now ≡ drop n s.now }
 {
     s.get(n..).unwrap_or(&[])
 }
 
-// The first n bytes.
-pub fn front(s: &[u8], n: usize) -> &[u8]
+// The first n bytes, or other items.
+pub fn front<T>(s: &[T], n: usize) -> &[T]
     ensures value { result.now ≡ take n s.now }
     ensures len { length result.now ≤ n }
 {

@@ -13,7 +13,7 @@ pub enum Class {
 pub type Name = [u8; 6];
 
 // An indicator by its number: 01 to 99 are 1 to 99, L0 to L9 are 100 to 109, LR is 110 and 1P is 111.
-// A number and no enum, by a rule of the project: indicators are found as numbers.
+// A number and no enum, by a rule of the project (docs/DECISIONS.md): one search finds names and numbers alike.
 pub type Indicator = u8;
 
 // A condition: an indicator that has to be on or, negated, off.

@@ -3,6 +3,7 @@ use Rattle.std.specs.Prelude.{ℕ, ◌+◌, List, [], length, take, drop, Some, 
 use Rattle.std.specs.Option.{option_map}
 use Rattle.deck.specs.declared.kinds.Input.{Input}
 use Rattle.deck.specs.declared.kinds.Output.{Output}
+use Rattle.deck.specs.declared.kinds.Part.{Part}
 use Rattle.deck.specs.Acted.{Acted}
 use Rattle.deck.specs.Defined.{Defined}
 
@@ -17,3 +18,7 @@ inputs_of d i = parts_of d.inputs (option_map (λ t. t.first) (slice_get d.types
 
 abbrev pub outputs_of : Acted → ℕ → List Output
 outputs_of a i = parts_of a.outputs (option_map (λ r. r.first) (slice_get a.records i)) (option_map (λ r. r.first) (slice_get a.records (i + 1)))
+
+-- the bytes of a part of the deck's text
+abbrev pub part_of : Part → List ℕ → List ℕ
+part_of p text = take p.length (drop p.at text)

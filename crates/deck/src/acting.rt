@@ -38,14 +38,14 @@ impl<'a> Lookup<'a> {
         name.as_ref().map(|name| self.fields.place(name))
     }
 
-    // A second factor; a text literal is a part of the deck's text.
-    fn operand(&self, factor: Factor) -> Operand
-        ensures { result ≡ operand_of (fields_of self.now.fields.now) self.now.place factor }
+    // A second factor, where there is one; a text literal is a part of the deck's text.
+    fn operand(&self, factor: Option<Factor>) -> Option<Operand>
+        ensures { result ≡ option_map (operand_of (fields_of self.now.fields.now) self.now.place) factor }
     {
-        match factor {
-            Factor::Field(name) => Operand::Field(self.fields.place(&name)),
-            Factor::Number(literal) => Operand::Number(literal),
-            Factor::Text { length } => Operand::Text(Part::behind(self.place, 33, length)),
+        match factor? {
+            Factor::Field(name) => Some(Operand::Field(self.fields.place(&name))),
+            Factor::Number(literal) => Some(Operand::Number(literal)),
+            Factor::Text { length } => Some(Operand::Text(Part::behind(self.place, 33, length))),
         }
     }
 
@@ -77,7 +77,7 @@ impl<'a> Lookup<'a> {
             conditions: c.conditions,
             operation: c.operation,
             factor1: self.field(c.factor1),
-            factor2: c.factor2.map(|factor| self.operand(factor)),
+            factor2: self.operand(c.factor2),
             result: self.field(c.result),
             half_adjust: c.half_adjust,
             told: c.told,
@@ -115,6 +115,7 @@ impl<T: Drop> ByTime<T> {
         self.total.clear();
     }
 
+    // By a Bool and no enum, as the definitions say it.
     fn add(&mut self, is_total: bool, item: T) -> Result<(), AllocError>
         ensures detail { OnOk result (self.new.detail.items ≡ with_item self.old.detail.items (not is_total) item) }
         ensures total { OnOk result (self.new.total.items ≡ with_item self.old.total.items is_total item) }

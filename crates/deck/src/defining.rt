@@ -85,6 +85,7 @@ impl Definitions {
     {
         if let Some(l) = level {
             let i = l.saturating_sub(100) as usize;
+            // Not by `get_mut`, behind which nothing is known of the elements.
             if let Some(None) = self.levels.get(i) {
                 self.levels[i] = Some(shape);
             }

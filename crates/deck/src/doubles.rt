@@ -45,10 +45,7 @@ fn is_like(fields: &FieldTable, definition: Option<Definition>) -> bool
 fn is_new_level(levels: &[Indicator], level: Option<Indicator>) -> bool
     ensures { result ≡ is_new_level levels.now level }
 {
-    match level {
-        Some(l) => first_equal(levels, &l).is_none(),
-        None => true,
-    }
+    level.is_none_or(|l| first_equal(levels, &l).is_none())
 }
 
 impl Definitions {

@@ -1,11 +1,12 @@
 ghost use Rattle.std.specs.Prelude.{◌≡◌, ℕ, ◌+◌, List, Option};
 ghost use Rattle.deck.specs.Acted.{acted_of};
 ghost use Rattle.deck.specs.Defined.{defined_of};
-ghost use Rattle.deck.specs.Parts.{parts_of, inputs_of, outputs_of};
+ghost use Rattle.deck.specs.Parts.{parts_of, inputs_of, outputs_of, part_of};
 
 use crate::actions::Actions;
 use crate::definitions::Definitions;
-use crate::kinds::{Input, Output};
+use crate::kinds::{Input, Output, Part};
+use columns::classes::{after, front};
 
 // Parts stand in one list for all elements, and not in each: so all is plain data that is copied, and what a field card
 // adds is the same whether or not a record card stands before it.
@@ -17,9 +18,16 @@ fn parts_of<T>(parts: &[T], first: Option<usize>, next: Option<usize>) -> &[T]
     let Some(first) = first else {
         return &[];
     };
-    let end = next.unwrap_or(parts.len());
-    let front = parts.get(..end).unwrap_or(parts);
-    front.get(first..).unwrap_or(&[])
+    after(front(parts, next.unwrap_or(parts.len())), first)
+}
+
+impl Part {
+    // The bytes of the part, as far as the text has them.
+    pub fn of(self, text: &[u8]) -> &[u8]
+        ensures { result.now ≡ part_of self text.now }
+    {
+        front(after(text, self.at), self.length)
+    }
 }
 
 impl Definitions {

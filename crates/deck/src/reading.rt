@@ -62,7 +62,7 @@ fn refuse(told: Option<Breach>) -> Result<(), ReadError>
 
 impl Definitions {
     // The first telling of a card. Definitions and what was seen are no one struct: the first stay in the deck's table,
-    // whose lists the next deck uses again, and a struct of references would be made anew for each card.
+    // whose lists the next deck uses again, and the others go with the sweep.
     fn tell(&self, seen: &Seen, card: &Card) -> Option<rules::Breach>
         ensures { result ≡ first_telling (defined_of self.now) (before_of seen.now) card.now.columns }
     {

@@ -34,10 +34,7 @@ fn answer_all(
 ) -> anyhow::Result<()> {
     let mut hopper = LineHopper::new(text);
     let mut number = 0u64;
-    for _ in 0..u64::MAX {
-        let Ok(Some(card)) = hopper.feed() else {
-            break;
-        };
+    'cards: while let Ok(Some(card)) = hopper.feed() {
         if is_mark(&card) {
             number = number.saturating_add(1);
             println!(rt; "#{number}")?;
@@ -51,20 +48,18 @@ fn answer_all(
 }
 
 fn is_mark(card: &Card) -> bool {
-    card.columns[0] == b'/' && card.columns[1] == b'*'
+    card.columns.starts_with(b"/*")
 }
 
 // How many bytes are cut off, from what stands behind the mark.
 fn cut(card: &Card) -> usize {
-    let mut n = 0usize;
-    for b in card.columns[2..6].iter() {
-        if b.is_ascii_digit() {
-            n = n
-                .saturating_mul(10)
-                .saturating_add((*b).saturating_sub(b'0') as usize);
-        }
-    }
-    n
+    card.columns[2..6]
+        .iter()
+        .filter(|b| b.is_ascii_digit())
+        .fold(0usize, |n, b| {
+            n.saturating_mul(10)
+                .saturating_add(usize::from(b.saturating_sub(b'0')))
+        })
 }
 
 // Reads a deck without its last bytes, as many as are cut off, and prints the answer.

@@ -100,8 +100,7 @@ fn factor(text: &[u8], factor: Option<Operand>) -> Cell<'_> {
 
 // A part of the deck's text.
 fn quoted(text: &[u8], part: Part) -> Cell<'_> {
-    let end = part.at.saturating_add(part.length);
-    Cell::Quoted(text.get(part.at..end).unwrap_or(&[]))
+    Cell::Quoted(part.of(text))
 }
 
 // Each line, and behind it its parts.

@@ -72,7 +72,7 @@ pub fn is_numeric(s: &[u8]) -> bool
     (1..=9).contains(&digits) && is_blank(Class::Digit.past(part))
 }
 
-// `numbers` has the like for amounts: no reading of columns rests on that crate.
+// `numbers` has the like for amounts; this crate rests on `columns` alone.
 fn with_sign(minus: bool, size: u64) -> i64
     requires { size < 10 ^ 18 }
     ensures { result ≡ signed minus size }

@@ -43,14 +43,14 @@ impl FieldTable {
         self.find(name).is_some()
     }
 
-    // The place of a name, and 0 for one that is not known.
+    // The place of a name, and 0 for one that is not known: the total reading beside `find`.
     pub fn place(&self, name: &Name) -> usize
         ensures { result ≡ place_of (fields_of self.now) name.now }
     {
         self.find(name).unwrap_or(0)
     }
 
-    // The shape of a name, and text of no bytes for one that is not known.
+    // The shape of a name, and text of no bytes for one that is not known: total as `place` is.
     pub fn shape(&self, name: &Name) -> Shape
         ensures { result ≡ shape_of (fields_of self.now) name.now }
     {

@@ -10,10 +10,7 @@ use numbers::Picture;
 pub fn image_width(picture: Picture, code: Option<EditCode>) -> u8
     ensures { result ≡ image_width code picture.digits picture.decimals }
 {
-    match code {
-        None => picture.digits,
-        Some(code) => edited_width(picture, code.style()),
-    }
+    code.map_or(picture.digits, |code| edited_width(picture, code.style()))
 }
 
 // The width of an edited image.

@@ -14,7 +14,8 @@ use crate::width::{edited_width, text_width};
 use numbers::Amount;
 use std::marker::Model;
 
-// The columns from `at` up to `end` are written, and those before `at` are free.
+// The columns from `at` up to `end` are written, and those before `at` are free. An array with its places beside it,
+// since an image takes no memory.
 #[derive(Drop)]
 pub(crate) struct Draft {
     bytes: [u8; IMAGE_COLUMNS],

@@ -52,6 +52,7 @@ pub struct Stop {
 }
 
 // The stop that an answer is, if it is one, where `cards` were listed before. Their count stays at the largest number.
+// It is asked of the whole answer, as its definition is.
 pub fn stop_of<F>(answer: &Result<Listed, ListError<F>>, cards: u64) -> Option<Stop>
     ensures { result ≡ stop_of answer.now cards }
 {
@@ -103,7 +104,7 @@ fn line_of(card: &Card) -> Result<Line, BadColumn>
     Line::new(1, 1, &text).map_err(|fault| bad_column(fault, &text))
 }
 
-// The column that a line's fault tells; column 0 where it tells none.
+// The column that a line's fault tells; column 0 where it tells none, which number 1 and spacing 1 never come to.
 fn bad_column(fault: LineFault, text: &[u8; 132]) -> BadColumn
     ensures { result ≡ bad_in fault text.now }
 {

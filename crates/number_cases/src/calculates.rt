@@ -14,6 +14,13 @@ struct Placed {
     amount: Amount,
 }
 
+// Two amounts that are calculated with.
+#[derive(Clone, Copy)]
+struct Pair {
+    a: Placed,
+    b: Placed,
+}
+
 pub fn pairs(rt: &HostRuntime) -> io::Result<()> {
     for (place, amount) in AMOUNTS.into_iter().enumerate() {
         let a = Placed { place, amount };
@@ -26,13 +33,13 @@ pub fn pairs(rt: &HostRuntime) -> io::Result<()> {
 fn with_each(rt: &HostRuntime, a: Placed) -> io::Result<()> {
     for (place, amount) in AMOUNTS.into_iter().enumerate() {
         let b = Placed { place, amount };
-        order(rt, a, b)?;
-        into_each(rt, a, b)?;
+        order(rt, Pair { a, b })?;
+        into_each(rt, Pair { a, b })?;
     }
     Ok(())
 }
 
-fn order(rt: &HostRuntime, a: Placed, b: Placed) -> io::Result<()> {
+fn order(rt: &HostRuntime, Pair { a, b }: Pair) -> io::Result<()> {
     rt.println(Row::<_, b' '>(&[
         Cell::Word("compare"),
         Cell::Place(a.place),
@@ -49,17 +56,17 @@ fn sign(order: Ordering) -> &'static str {
     }
 }
 
-fn into_each(rt: &HostRuntime, a: Placed, b: Placed) -> io::Result<()> {
+fn into_each(rt: &HostRuntime, pair: Pair) -> io::Result<()> {
     for (k, picture) in RESULTS.into_iter().enumerate() {
         for rounding in [Rounding::Cut, Rounding::HalfAdjust] {
-            four(rt, a, b, k, Target { picture, rounding })?;
+            four(rt, pair, k, Target { picture, rounding })?;
         }
     }
     Ok(())
 }
 
 // The sum, the difference, the product and the quotient of a pair, behind the places of the case in its tables.
-fn four(rt: &HostRuntime, a: Placed, b: Placed, k: usize, into: Target) -> io::Result<()> {
+fn four(rt: &HostRuntime, Pair { a, b }: Pair, k: usize, into: Target) -> io::Result<()> {
     let word = match into.rounding {
         Rounding::Cut => "cut",
         Rounding::HalfAdjust => "half",

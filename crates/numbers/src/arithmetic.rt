@@ -12,6 +12,8 @@ use crate::powers::ten;
 use crate::reading::with_sign;
 use std::cmp::Ordering;
 
+// That a result has its target's picture is a clause of each: it ties an answer to an argument, and no type holds
+// both.
 impl Amount {
     // The exact sum, cut or rounded into the picture of the result.
     pub fn add(self, other: Amount, into: Target) -> Result<Amount, ArithmeticError>
@@ -63,7 +65,7 @@ impl Amount {
         )
     }
 
-    // The order of the exact values, whatever their decimals.
+    // The order of the exact values, whatever their decimals. No `Ord`: by `==` only amounts of one picture are equal.
     pub fn compare(self, other: Amount) -> Ordering
         ensures { result ≡ compared (exact self.count self.picture.decimals) (exact other.count other.picture.decimals) }
     {

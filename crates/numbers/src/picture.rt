@@ -21,7 +21,7 @@ impl Picture {
         ensures made { is_some result ≡ is_picture digits decimals }
         ensures parts { IfSome result (λ p. (p.digits ≡ digits) × (p.decimals ≡ decimals)) }
     {
-        // Not `then_some`, which would make the picture before the test.
+        // Tried as `then`: its closure does not know of the test, which the picture's ghost fields ask for.
         if (1..=WIDEST).contains(&digits) && decimals <= digits {
             Some(Picture { digits, decimals })
         } else {

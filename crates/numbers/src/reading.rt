@@ -36,7 +36,8 @@ impl ReadError {
     }
 }
 
-// The count of a field's columns, or the first wrong one.
+// The count of a field's columns, or the first wrong one. The columns and the number of the first are two arguments, as
+// they come: the columns that are left change, and the number stays.
 fn read_field(columns: &[u8], first: u8) -> Result<i64, ReadError>
     requires some { 1 ≤ length columns.now }
     requires few { length columns.now ≤ widest }

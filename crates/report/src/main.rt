@@ -33,9 +33,8 @@ const STRIP: usize = 32768;
 fn main(rt: HostRuntime) -> anyhow::Result<()> {
     let mut text = Vec::new(rt.alloc());
     rt.stdin().read_to_end(&mut text)?;
-    let Ok(mut strip) = Strip::new(rt.alloc(), STRIP) else {
-        return Err(anyhow!("there is no memory for a strip"));
-    };
+    let mut strip = Strip::new(rt.alloc(), STRIP)
+        .map_err(|_| anyhow!("there is no memory for a strip"))?;
     answer(&rt, text.as_slice(), &mut strip)
 }
 

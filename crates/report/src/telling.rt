@@ -62,6 +62,7 @@ pub(crate) fn tell_byte(rt: &HostRuntime, card: usize, bad: BadColumn) -> io::Re
     )
 }
 
+// A sentence goes by the refusal, the kind of card and the column: no one type could be its `Display`.
 fn sentence(refusal: Refusal, kind: Kind, column: u8) -> &'static str {
     match refusal {
         Refusal::CutDeck => "a deck is 1 to 256 whole cards of 80 columns",

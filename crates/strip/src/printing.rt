@@ -86,9 +86,7 @@ impl Printer for Strip {
         ensures size { strip_size self.new ≡ strip_size self.old }
         ensures used { strip_used self.new ≡ used_after (strip_lines self.new) (strip_used self.old) }
     {
-        let Some(oldest) = self.oldest() else {
-            return Err(Refusal::NoLine);
-        };
+        let oldest = self.oldest().ok_or(Refusal::NoLine)?;
         self.pass(oldest.length);
         Ok(oldest.line)
     }
