@@ -11,6 +11,85 @@ use columns::kinds::Class;
 use entries::{is_blank_or, is_name, is_number, is_numeric, is_text, value};
 use operations::{Operation, Takes};
 
+// The columns of an entry of a calculation card, and the card's operation.
+#[derive(Clone, Copy)]
+pub(crate) struct Entry<'a> {
+    pub(crate) operation: Option<Operation>,
+    pub(crate) columns: &'a [u8],
+}
+
+impl Entry<'_> {
+    // Filled or blank as the operation asks of an entry; an unknown operation asks nothing.
+    fn is_asked<F: FnOnce(Takes) -> bool>(&self, entry: F) -> bool
+        requires { F.IsAlwaysCallable entry }
+        ensures { MatchOption self.now.operation (result ≡ true) (λ o. (taken : Bool) × F.post entry (takes_of o) taken × (result ≡ is_filled taken self.now.columns.now)) }
+    {
+        self.operation
+            .is_none_or(|known| is_filled(entry(known.takes()), self.columns))
+    }
+
+    // Blank, unless the operation may have the entry; an unknown operation may have each.
+    fn is_allowed<F: FnOnce(Takes) -> bool>(&self, may: F) -> bool
+        requires { F.IsAlwaysCallable may }
+        ensures { MatchOption self.now.operation (result ≡ true) (λ o. (has : Bool) × F.post may (takes_of o) has × (result ≡ (has || is_blank self.now.columns.now))) }
+    {
+        self.operation
+            .is_none_or(|known| may(known.takes()) || is_blank(self.columns))
+    }
+
+    pub(crate) fn is_factor1(&self) -> bool
+        ensures { result ≡ is_factor1 self.now.operation self.now.columns.now }
+    {
+        is_optional_name(self.columns) && self.is_asked(|takes| takes.factor1)
+    }
+
+    // A name or a literal.
+    pub(crate) fn is_factor2(&self) -> bool
+        ensures { result ≡ is_factor2 self.now.operation self.now.columns.now }
+    {
+        let s = self.columns;
+        (is_blank(s) || is_name(s) || is_numeric(s) || is_text(s))
+            && self.is_asked(|takes| takes.factor2)
+    }
+
+    pub(crate) fn is_result(&self) -> bool
+        ensures { result ≡ is_result self.now.operation self.now.columns.now }
+    {
+        is_optional_name(self.columns) && self.is_asked(|takes| takes.result)
+    }
+
+    // The length of a result that the card defines.
+    pub(crate) fn is_length(&self, decimals: &[u8]) -> bool
+        ensures { result ≡ is_length self.now.operation self.now.columns.now decimals.now }
+    {
+        is_blank(self.columns)
+            || (is_size(self.columns, decimals) && self.is_allowed(|takes| takes.result))
+    }
+
+    // H, or nothing.
+    pub(crate) fn is_half_adjust(&self) -> bool
+        ensures { result ≡ is_half_adjust self.now.operation self.now.columns.now }
+    {
+        is_blank(self.columns)
+            || (at(self.columns, 0) == b'H' && self.is_allowed(|takes| takes.half_adjust))
+    }
+
+    // An indicator that tells of the result.
+    pub(crate) fn is_told(&self) -> bool
+        ensures { result ≡ is_told self.now.operation self.now.columns.now }
+    {
+        is_blank_or(1, 99, self.columns) && self.is_allowed(|takes| takes.tells)
+    }
+
+    // An operation that sets indicators names one.
+    pub(crate) fn names_one(&self) -> bool
+        ensures { result ≡ names_one self.now.operation self.now.columns.now }
+    {
+        self.operation
+            .is_none_or(|known| !known.takes().sets || !is_blank(self.columns))
+    }
+}
+
 // Filled where the entry is taken, and blank where it is not.
 fn is_filled(taken: bool, s: &[u8]) -> bool
     ensures { result ≡ is_filled taken s.now }
@@ -18,60 +97,11 @@ fn is_filled(taken: bool, s: &[u8]) -> bool
     taken != is_blank(s)
 }
 
-// Filled or blank as the operation asks of an entry; an unknown operation asks nothing.
-fn is_asked<F: FnOnce(Takes) -> bool>(entry: F, operation: Option<Operation>, s: &[u8]) -> bool
-    requires { F.IsAlwaysCallable entry }
-    ensures { MatchOption operation (result ≡ true) (λ o. (taken : Bool) × F.post entry (takes_of o) taken × (result ≡ is_filled taken s.now)) }
-{
-    match operation {
-        Some(known) => is_filled(entry(known.takes()), s),
-        None => true,
-    }
-}
-
-// Blank, unless the operation may have the entry; an unknown operation may have each.
-fn is_allowed<F: FnOnce(Takes) -> bool>(may: F, operation: Option<Operation>, s: &[u8]) -> bool
-    requires { F.IsAlwaysCallable may }
-    ensures { MatchOption operation (result ≡ true) (λ o. (has : Bool) × F.post may (takes_of o) has × (result ≡ (has || is_blank s.now))) }
-{
-    match operation {
-        Some(known) => may(known.takes()) || is_blank(s),
-        None => true,
-    }
-}
-
 // A name, or nothing.
 pub(crate) fn is_optional_name(s: &[u8]) -> bool
     ensures { result ≡ is_optional_name s.now }
 {
     is_blank(s) || is_name(s)
-}
-
-pub(crate) fn is_factor1(operation: Option<Operation>, s: &[u8]) -> bool
-    ensures { result ≡ is_factor1 operation s.now }
-{
-    is_optional_name(s) && is_asked(|takes| takes.factor1, operation, s)
-}
-
-// A name or a literal.
-pub(crate) fn is_factor2(operation: Option<Operation>, s: &[u8]) -> bool
-    ensures { result ≡ is_factor2 operation s.now }
-{
-    (is_blank(s) || is_name(s) || is_numeric(s) || is_text(s))
-        && is_asked(|takes| takes.factor2, operation, s)
-}
-
-pub(crate) fn is_result(operation: Option<Operation>, s: &[u8]) -> bool
-    ensures { result ≡ is_result operation s.now }
-{
-    is_optional_name(s) && is_asked(|takes| takes.result, operation, s)
-}
-
-// The length of a result that the card defines.
-pub(crate) fn is_length(operation: Option<Operation>, s: &[u8], decimals: &[u8]) -> bool
-    ensures { result ≡ is_length operation s.now decimals.now }
-{
-    is_blank(s) || (is_size(s, decimals) && is_allowed(|takes| takes.result, operation, s))
 }
 
 // A length that a number or a text may have.
@@ -88,25 +118,4 @@ pub(crate) fn is_result_decimals(s: &[u8], decimals: &[u8]) -> bool
 {
     is_blank(decimals)
         || (Class::Digit.is_all(decimals) && !is_blank(s) && value(decimals) <= value(s))
-}
-
-// H, or nothing.
-pub(crate) fn is_half_adjust(operation: Option<Operation>, s: &[u8]) -> bool
-    ensures { result ≡ is_half_adjust operation s.now }
-{
-    is_blank(s) || (at(s, 0) == b'H' && is_allowed(|takes| takes.half_adjust, operation, s))
-}
-
-// An indicator that tells of the result.
-pub(crate) fn is_told(operation: Option<Operation>, s: &[u8]) -> bool
-    ensures { result ≡ is_told operation s.now }
-{
-    is_blank_or(1, 99, s) && is_allowed(|takes| takes.tells, operation, s)
-}
-
-// An operation that sets indicators names one.
-pub(crate) fn names_one(operation: Option<Operation>, s: &[u8]) -> bool
-    ensures { result ≡ names_one operation s.now }
-{
-    operation.is_none_or(|known| !known.takes().sets || !is_blank(s))
 }

@@ -74,6 +74,17 @@ fn operation(card: &Card) -> Option<Operation>
     read_operation(entry(card, 28, 32))
 }
 
+// An entry of a calculation card.
+fn of_calculation<'a>(card: &Card, s: &'a [u8]) -> Entry<'a>
+    ensures operation { result.operation ≡ operation_in card.now.columns }
+    ensures columns { result.columns.now ≡ s.now }
+{
+    Entry {
+        operation: operation(card),
+        columns: s,
+    }
+}
+
 // What one rule tells of a card. One match over all that may stand in an entry: each arm is a line of the table that
 // the contract names.
 fn tell(highest: u8, card: &Card, rule: Rule) -> Option<Breach>
@@ -99,15 +110,15 @@ fn tell(highest: u8, card: &Card, rule: Rule) -> Option<Breach>
         What::Settable => punch(from, is_blank_or(1, 99, s)),
         What::TotalLevel => punch(from, is_blank_or(100, 110, s)),
         What::Condition => punch(from, is_condition(s)),
-        What::Factor1 => punch(from, is_factor1(operation(card), s)),
+        What::Factor1 => punch(from, of_calculation(card, s).is_factor1()),
         What::Operation => punch(from, operation(card).is_some()),
-        What::Factor2 => punch(from, is_factor2(operation(card), s)),
-        What::Result => punch(from, is_result(operation(card), s)),
-        What::Length => punch(from, is_length(operation(card), s, entry(card, 52, 52))),
+        What::Factor2 => punch(from, of_calculation(card, s).is_factor2()),
+        What::Result => punch(from, of_calculation(card, s).is_result()),
+        What::Length => punch(from, of_calculation(card, s).is_length(entry(card, 52, 52))),
         What::ResultDecimals => punch(from, is_result_decimals(entry(card, 49, 51), s)),
-        What::HalfAdjust => punch(from, is_half_adjust(operation(card), s)),
-        What::Told => punch(from, is_told(operation(card), s)),
-        What::Sets => punch(from, names_one(operation(card), s)),
+        What::HalfAdjust => punch(from, of_calculation(card, s).is_half_adjust()),
+        What::Told => punch(from, of_calculation(card, s).is_told()),
+        What::Sets => punch(from, of_calculation(card, s).names_one()),
         What::LineKind => punch(from, is_line_kind(s)),
         What::Spacing => punch(from, is_spacing(s)),
         What::OptionalName => punch(from, is_optional_name(s)),
