@@ -3,379 +3,102 @@ ghost use Rattle.cards.specs.Layouts.{layout_of, Covers};
 
 use crate::kinds::{Kind, Rule, What};
 
-// Each rule is written out: tried as a call of a `const fn`, which a constant's value may not hold.
+// One rule of a layout: the first and the last column of an entry, and what may stand there.
+macro_rules! rule {
+    ($from:expr, $to:expr, $what:ident) => {
+        Rule {
+            from: $from,
+            to: $to,
+            what: What::$what,
+        }
+    };
+}
+
 static RECORD: [Rule; 10] = [
-    Rule {
-        from: 1,
-        to: 5,
-        what: What::Free,
-    },
-    Rule {
-        from: 6,
-        to: 6,
-        what: What::Form,
-    },
-    Rule {
-        from: 7,
-        to: 16,
-        what: What::Free,
-    },
-    Rule {
-        from: 17,
-        to: 18,
-        what: What::Blank,
-    },
-    Rule {
-        from: 19,
-        to: 20,
-        what: What::RecordIndicator,
-    },
-    Rule {
-        from: 21,
-        to: 27,
-        what: What::Code,
-    },
-    Rule {
-        from: 28,
-        to: 34,
-        what: What::Code,
-    },
-    Rule {
-        from: 35,
-        to: 41,
-        what: What::Code,
-    },
-    Rule {
-        from: 42,
-        to: 74,
-        what: What::Blank,
-    },
-    Rule {
-        from: 75,
-        to: 80,
-        what: What::Free,
-    },
+    rule!(1, 5, Free),
+    rule!(6, 6, Form),
+    rule!(7, 16, Free),
+    rule!(17, 18, Blank),
+    rule!(19, 20, RecordIndicator),
+    rule!(21, 27, Code),
+    rule!(28, 34, Code),
+    rule!(35, 41, Code),
+    rule!(42, 74, Blank),
+    rule!(75, 80, Free),
 ];
 
 static FIELD: [Rule; 14] = [
-    Rule {
-        from: 1,
-        to: 5,
-        what: What::Free,
-    },
-    Rule {
-        from: 6,
-        to: 6,
-        what: What::Form,
-    },
-    Rule {
-        from: 7,
-        to: 43,
-        what: What::Blank,
-    },
-    Rule {
-        from: 44,
-        to: 47,
-        what: What::From,
-    },
-    Rule {
-        from: 48,
-        to: 51,
-        what: What::To,
-    },
-    Rule {
-        from: 52,
-        to: 52,
-        what: What::FieldDecimals,
-    },
-    Rule {
-        from: 53,
-        to: 58,
-        what: What::Name,
-    },
-    Rule {
-        from: 59,
-        to: 60,
-        what: What::ControlLevel,
-    },
-    Rule {
-        from: 61,
-        to: 64,
-        what: What::Blank,
-    },
-    Rule {
-        from: 65,
-        to: 66,
-        what: What::SignIndicator,
-    },
-    Rule {
-        from: 67,
-        to: 68,
-        what: What::SignIndicator,
-    },
-    Rule {
-        from: 69,
-        to: 70,
-        what: What::Settable,
-    },
-    Rule {
-        from: 71,
-        to: 74,
-        what: What::Blank,
-    },
-    Rule {
-        from: 75,
-        to: 80,
-        what: What::Free,
-    },
+    rule!(1, 5, Free),
+    rule!(6, 6, Form),
+    rule!(7, 43, Blank),
+    rule!(44, 47, From),
+    rule!(48, 51, To),
+    rule!(52, 52, FieldDecimals),
+    rule!(53, 58, Name),
+    rule!(59, 60, ControlLevel),
+    rule!(61, 64, Blank),
+    rule!(65, 66, SignIndicator),
+    rule!(67, 68, SignIndicator),
+    rule!(69, 70, Settable),
+    rule!(71, 74, Blank),
+    rule!(75, 80, Free),
 ];
 
 static CALCULATION: [Rule; 19] = [
-    Rule {
-        from: 1,
-        to: 5,
-        what: What::Free,
-    },
-    Rule {
-        from: 6,
-        to: 6,
-        what: What::Form,
-    },
-    Rule {
-        from: 7,
-        to: 8,
-        what: What::TotalLevel,
-    },
-    Rule {
-        from: 9,
-        to: 11,
-        what: What::Condition,
-    },
-    Rule {
-        from: 12,
-        to: 14,
-        what: What::Condition,
-    },
-    Rule {
-        from: 15,
-        to: 17,
-        what: What::Condition,
-    },
-    Rule {
-        from: 18,
-        to: 27,
-        what: What::Factor1,
-    },
-    Rule {
-        from: 28,
-        to: 32,
-        what: What::Operation,
-    },
-    Rule {
-        from: 33,
-        to: 42,
-        what: What::Factor2,
-    },
-    Rule {
-        from: 43,
-        to: 48,
-        what: What::Result,
-    },
-    Rule {
-        from: 49,
-        to: 51,
-        what: What::Length,
-    },
-    Rule {
-        from: 52,
-        to: 52,
-        what: What::ResultDecimals,
-    },
-    Rule {
-        from: 53,
-        to: 53,
-        what: What::HalfAdjust,
-    },
-    Rule {
-        from: 54,
-        to: 55,
-        what: What::Told,
-    },
-    Rule {
-        from: 56,
-        to: 57,
-        what: What::Told,
-    },
-    Rule {
-        from: 58,
-        to: 59,
-        what: What::Told,
-    },
-    Rule {
-        from: 54,
-        to: 59,
-        what: What::Sets,
-    },
-    Rule {
-        from: 60,
-        to: 74,
-        what: What::Blank,
-    },
-    Rule {
-        from: 75,
-        to: 80,
-        what: What::Free,
-    },
+    rule!(1, 5, Free),
+    rule!(6, 6, Form),
+    rule!(7, 8, TotalLevel),
+    rule!(9, 11, Condition),
+    rule!(12, 14, Condition),
+    rule!(15, 17, Condition),
+    rule!(18, 27, Factor1),
+    rule!(28, 32, Operation),
+    rule!(33, 42, Factor2),
+    rule!(43, 48, Result),
+    rule!(49, 51, Length),
+    rule!(52, 52, ResultDecimals),
+    rule!(53, 53, HalfAdjust),
+    rule!(54, 55, Told),
+    rule!(56, 57, Told),
+    rule!(58, 59, Told),
+    rule!(54, 59, Sets),
+    rule!(60, 74, Blank),
+    rule!(75, 80, Free),
 ];
 
 static OUTPUT_RECORD: [Rule; 12] = [
-    Rule {
-        from: 1,
-        to: 5,
-        what: What::Free,
-    },
-    Rule {
-        from: 6,
-        to: 6,
-        what: What::Form,
-    },
-    Rule {
-        from: 7,
-        to: 14,
-        what: What::Free,
-    },
-    Rule {
-        from: 15,
-        to: 15,
-        what: What::LineKind,
-    },
-    Rule {
-        from: 16,
-        to: 17,
-        what: What::Blank,
-    },
-    Rule {
-        from: 18,
-        to: 18,
-        what: What::Spacing,
-    },
-    Rule {
-        from: 19,
-        to: 22,
-        what: What::Blank,
-    },
-    Rule {
-        from: 23,
-        to: 25,
-        what: What::Condition,
-    },
-    Rule {
-        from: 26,
-        to: 28,
-        what: What::Condition,
-    },
-    Rule {
-        from: 29,
-        to: 31,
-        what: What::Condition,
-    },
-    Rule {
-        from: 32,
-        to: 74,
-        what: What::Blank,
-    },
-    Rule {
-        from: 75,
-        to: 80,
-        what: What::Free,
-    },
+    rule!(1, 5, Free),
+    rule!(6, 6, Form),
+    rule!(7, 14, Free),
+    rule!(15, 15, LineKind),
+    rule!(16, 17, Blank),
+    rule!(18, 18, Spacing),
+    rule!(19, 22, Blank),
+    rule!(23, 25, Condition),
+    rule!(26, 28, Condition),
+    rule!(29, 31, Condition),
+    rule!(32, 74, Blank),
+    rule!(75, 80, Free),
 ];
 
 static OUTPUT_FIELD: [Rule; 14] = [
-    Rule {
-        from: 1,
-        to: 5,
-        what: What::Free,
-    },
-    Rule {
-        from: 6,
-        to: 6,
-        what: What::Form,
-    },
-    Rule {
-        from: 7,
-        to: 22,
-        what: What::Blank,
-    },
-    Rule {
-        from: 23,
-        to: 25,
-        what: What::Condition,
-    },
-    Rule {
-        from: 26,
-        to: 28,
-        what: What::Condition,
-    },
-    Rule {
-        from: 29,
-        to: 31,
-        what: What::Condition,
-    },
-    Rule {
-        from: 32,
-        to: 37,
-        what: What::OptionalName,
-    },
-    Rule {
-        from: 38,
-        to: 38,
-        what: What::Edit,
-    },
-    Rule {
-        from: 39,
-        to: 39,
-        what: What::BlankAfter,
-    },
-    Rule {
-        from: 40,
-        to: 43,
-        what: What::End,
-    },
-    Rule {
-        from: 44,
-        to: 44,
-        what: What::Blank,
-    },
-    Rule {
-        from: 45,
-        to: 70,
-        what: What::Constant,
-    },
-    Rule {
-        from: 71,
-        to: 74,
-        what: What::Blank,
-    },
-    Rule {
-        from: 75,
-        to: 80,
-        what: What::Free,
-    },
+    rule!(1, 5, Free),
+    rule!(6, 6, Form),
+    rule!(7, 22, Blank),
+    rule!(23, 25, Condition),
+    rule!(26, 28, Condition),
+    rule!(29, 31, Condition),
+    rule!(32, 37, OptionalName),
+    rule!(38, 38, Edit),
+    rule!(39, 39, BlankAfter),
+    rule!(40, 43, End),
+    rule!(44, 44, Blank),
+    rule!(45, 70, Constant),
+    rule!(71, 74, Blank),
+    rule!(75, 80, Free),
 ];
 
-static UNKNOWN: [Rule; 2] = [
-    Rule {
-        from: 1,
-        to: 5,
-        what: What::Free,
-    },
-    Rule {
-        from: 6,
-        to: 6,
-        what: What::Form,
-    },
-];
+static UNKNOWN: [Rule; 2] = [rule!(1, 5, Free), rule!(6, 6, Form)];
 
 // The rules of a card kind, in the order of their columns.
 pub fn layout(kind: Kind) -> &'static [Rule]
