@@ -1,5 +1,5 @@
-ghost use Rattle.std.specs.Prelude.{Some};
-ghost use Rattle.cards.specs.Kinds.{letter_of};
+ghost use Rattle.std.specs.Prelude.{◌≡◌, Some};
+ghost use Rattle.cards.specs.Kinds.{letter_of, line_kind_by};
 
 use columns::kinds::{Condition, Indicator, Literal, Name};
 use images::EditCode;
@@ -144,6 +144,21 @@ pub enum LineKind {
     Heading,
     Detail,
     Total,
+}
+
+impl LineKind {
+    // The kind of line that a letter stands for. It stays an Option, as an edit code's: the error of a TryFrom would
+    // say nothing.
+    pub fn from_byte(byte: u8) -> Option<LineKind>
+        ensures { result ≡ line_kind_by byte }
+    {
+        match byte {
+            b'H' => Some(LineKind::Heading),
+            b'D' => Some(LineKind::Detail),
+            b'T' => Some(LineKind::Total),
+            _ => None,
+        }
+    }
 }
 
 impl fmt::Display for LineKind {

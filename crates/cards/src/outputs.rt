@@ -2,6 +2,7 @@
 ghost use Rattle.std.specs.Prelude.{◌≡◌, ◌≤◌};
 ghost use Rattle.cards.specs.Punches.{is_line_kind, is_spacing, is_edit, is_blank_after, is_end, is_constant};
 
+use crate::kinds::LineKind;
 use columns::classes::{at, is_blank};
 use entries::{is_number, is_text, value};
 use images::EditCode;
@@ -10,7 +11,7 @@ use images::EditCode;
 pub(crate) fn is_line_kind(s: &[u8]) -> bool
     ensures { result ≡ is_line_kind s.now }
 {
-    matches!(at(s, 0), b'H' | b'D' | b'T')
+    LineKind::from_byte(at(s, 0)).is_some()
 }
 
 // 1 to 3, or nothing.

@@ -188,11 +188,8 @@ fn calculation(card: &Card) -> CalculationCard
 fn line_kind(s: &[u8]) -> LineKind
     ensures { result ≡ line_kind_of s.now }
 {
-    match at(s, 0) {
-        b'T' => LineKind::Total,
-        b'D' => LineKind::Detail,
-        _ => LineKind::Heading,
-    }
+    // A total reading: a letter that stands for no kind counts as a heading.
+    LineKind::from_byte(at(s, 0)).unwrap_or(LineKind::Heading)
 }
 
 // Lines are spaced by one where nothing is said.
