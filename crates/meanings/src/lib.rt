@@ -112,6 +112,7 @@ fn record(card: &Card) -> RecordCard
     ensures { result ≡ record_of card.now.columns }
 {
     RecordCard {
+        // A total reading: 0 where no indicator is named, as in the definition.
         indicator: indicator(entry(card, 19, 20)).unwrap_or(0),
         codes: codes(card),
     }
