@@ -48,11 +48,18 @@ def functions(path):
 
 
 def parameters(body):
-    depth, start = 0, body.index('(')
-    for i, c in enumerate(body[start:], start):
-        depth += {'(': 1, '<': 1, '[': 1, ')': -1, '>': -1, ']': -1}.get(c, 0) if body[i - 1:i + 1] != '->' else 0
+    """A function's parameters: what stands between the parentheses behind its name and its type parameters."""
+    text = body[re.search(r'\bfn \w+', body).end():].replace('->', '  ')
+    start = depth = 0
+    for i, c in enumerate(text):
+        if depth == 0 and c == '(':
+            start = i
+            break
+        depth += {'<': 1, '>': -1}.get(c, 0) + {'(': 1, ')': -1}.get(c, 0) * (depth > 0)
+    for i, c in enumerate(text[start:], start):
+        depth += {'(': 1, ')': -1}.get(c, 0)
         if depth == 0:
-            return [' '.join(p.split()) for p in re.split(r',(?![^<\[(]*[>\])])', body[start + 1:i]) if p.strip()]
+            return [' '.join(p.split()) for p in re.split(r',(?![^<\[(]*[>\])])', text[start + 1:i]) if p.strip()]
     return []
 
 

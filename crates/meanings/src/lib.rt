@@ -64,7 +64,8 @@ fn code(s: &[u8]) -> Option<Code>
     })
 }
 
-// What three entries of one width say, which stand one after another from a column on.
+// What three entries of one width say, which stand one after another from a column on. The column is no part of the
+// card: three readings begin each in its own.
 fn three<T, F: Fn(&[u8]) -> Option<T>>(card: &Card, from: u8, width: u8, read: F) -> Three<T>
     requires callable { F.IsAlwaysCallable read }
     requires filled { 1 ≤ width }

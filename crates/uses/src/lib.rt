@@ -200,7 +200,8 @@ fn tell_unknown_entries(fields: &FieldTable, c: &CalculationCard) -> Option<Brea
     ])
 }
 
-// A name that no card defines.
+// A name that no card defines. Table and card are no one struct: they are lent apart, and most functions here read the
+// table and no card.
 fn tell_unknowns(fields: &FieldTable, card: &DeckCard) -> Option<Breach>
     ensures { result ≡ unknowns (fields_of fields.now) card.now }
 {
