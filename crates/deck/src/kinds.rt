@@ -37,7 +37,9 @@ pub struct Part {
     pub length: usize,
 }
 
-// The second factor of a calculation: a field by its place, a number, or a part of the deck's text.
+// The second factor of a calculation: a field by its place, a number, or a part of the deck's text. It, `Source`,
+// `Calculation` and `Output` are no instances of one type with what the cards say: there names stand, and here places,
+// parts of the text and card numbers, and a type over both would only name what it holds by parameters.
 #[derive(Clone, Copy)]
 pub enum Operand {
     Field(usize),

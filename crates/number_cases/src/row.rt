@@ -1,4 +1,4 @@
-// What stands between two blanks of a row.
+// What stands between two blanks of a row: other cells than those of decks, and an enum for the reason given there.
 use shown::BytesText;
 use std::fmt;
 use std::fmt::Display;

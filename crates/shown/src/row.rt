@@ -7,7 +7,8 @@ use operations::Operation;
 use std::fmt;
 use std::fmt::Display;
 
-// What stands between two commas. A dash stands for what is absent.
+// What stands between two commas. A dash stands for what is absent. An enum and no `dyn Display`: tried, and
+// what is `dyn` can't be printed.
 #[derive(Clone, Copy)]
 pub enum Cell<'a> {
     Word(&'static str),
