@@ -5,7 +5,7 @@ ghost use Rattle.columns.specs.Classes.{is_blank};
 ghost use Rattle.operations.specs.Operations.{takes_of};
 ghost use Rattle.cards.specs.Punches.{is_filled, is_optional_name, is_factor1, is_factor2, is_result, is_size, is_length, is_result_decimals, is_half_adjust, is_told, names_one};
 
-use crate::inputs::widest_of;
+use crate::inputs::{is_between, widest_of};
 use columns::classes::{at, is_blank};
 use columns::kinds::Class;
 use entries::{is_blank_or, is_name, is_number, is_numeric, is_text, value};
@@ -52,6 +52,7 @@ impl Entry<'_> {
             && self.is_asked(|takes| takes.factor2)
     }
 
+    // One line as for factor 1, which names its own entry.
     pub(crate) fn is_result(&self) -> bool
         ensures { result ≡ is_result self.now.operation self.now.columns.now }
     {
@@ -108,8 +109,7 @@ pub(crate) fn is_optional_name(s: &[u8]) -> bool
 fn is_size(s: &[u8], decimals: &[u8]) -> bool
     ensures { result ≡ is_size s.now decimals.now }
 {
-    let length = value(s);
-    is_number(s) && (1..=widest_of(decimals)).contains(&length)
+    is_between(1, widest_of(decimals), s)
 }
 
 // Decimals of a result: beside a length, and no more than it.

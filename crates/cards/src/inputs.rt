@@ -1,17 +1,25 @@
 // The entries of input cards.
-ghost use Rattle.std.specs.Prelude.{◌≡◌, ◌≤◌};
+ghost use Rattle.std.specs.Prelude.{◌≡◌, ◌≤◌, ◌&&◌};
+ghost use Rattle.columns.specs.Classes.{within};
+ghost use Rattle.entries.specs.Entries.{is_number, value_of};
 ghost use Rattle.cards.specs.Punches.{is_position, is_filled_code, is_code, width_of, widest, is_to, is_field_decimals, is_sign_indicator};
 
 use columns::classes::{at, front, is_blank};
 use columns::kinds::Class;
 use entries::{is_blank_or, is_number, value};
 
+// A number from one to another.
+pub(crate) fn is_between(low: u16, high: u16, s: &[u8]) -> bool
+    ensures { result ≡ (is_number s.now && within low high (value_of s.now)) }
+{
+    is_number(s) && (low..=high).contains(&value(s))
+}
+
 // A position on a data card, 1 to 80.
 pub(crate) fn is_position(s: &[u8]) -> bool
     ensures { result ≡ is_position s.now }
 {
-    let position = value(s);
-    is_number(s) && (1..=80).contains(&position)
+    is_between(1, 80, s)
 }
 
 // A code: a position, N or a blank, C, and a character.
@@ -45,8 +53,8 @@ pub(crate) fn widest_of(decimals: &[u8]) -> u16
     if is_blank(decimals) { 32 } else { 9 }
 }
 
-// A field's last position. Its columns and those of the other entries come apart, and so they stay: a rule gives the
-// ones, and the card the others.
+// A field's last position. From and to are two arguments: the columns of a rule are the one, and the other is read off
+// the card.
 pub(crate) fn is_to(from: &[u8], to: &[u8], decimals: &[u8]) -> bool
     ensures { result ≡ is_to from.now to.now decimals.now }
 {

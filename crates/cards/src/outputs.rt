@@ -2,9 +2,10 @@
 ghost use Rattle.std.specs.Prelude.{◌≡◌, ◌≤◌};
 ghost use Rattle.cards.specs.Punches.{is_line_kind, is_spacing, is_edit, is_blank_after, is_end, is_constant};
 
+use crate::inputs::is_between;
 use crate::kinds::LineKind;
 use columns::classes::{at, is_blank};
-use entries::{is_number, is_text, value};
+use entries::is_text;
 use images::EditCode;
 
 // H, D or T.
@@ -39,8 +40,7 @@ pub(crate) fn is_blank_after(name: &[u8], s: &[u8]) -> bool
 pub(crate) fn is_end(s: &[u8]) -> bool
     ensures { result ≡ is_end s.now }
 {
-    let end = value(s);
-    is_number(s) && (1..=132).contains(&end)
+    is_between(1, 132, s)
 }
 
 // A constant where no name stands.

@@ -115,7 +115,7 @@ impl<T: Drop> ByTime<T> {
         self.total.clear();
     }
 
-    // By a Bool and no enum, as the definitions say it.
+    // By a Bool, as the definitions say it: an enum would be turned into one at once.
     fn add(&mut self, is_total: bool, item: T) -> Result<(), AllocError>
         ensures detail { OnOk result (self.new.detail.items ≡ with_item self.old.detail.items (not is_total) item) }
         ensures total { OnOk result (self.new.total.items ≡ with_item self.old.total.items is_total item) }

@@ -19,21 +19,33 @@ fn result_definition(name: Option<Name>, shape: Option<Shape>) -> Option<Definit
         .map(|(name, shape)| Definition { name, shape })
 }
 
+// The field that an input card defines.
+pub(crate) fn defined_by(f: &FieldCard) -> Definition
+    ensures { result ≡ record { name = f.now.name; shape = f.now.shape } }
+{
+    let name = f.name;
+    Definition {
+        name,
+        shape: f.shape,
+    }
+}
+
 // The field that a card defines, if it defines one.
 pub(crate) fn definition(card: &DeckCard) -> Option<Definition>
     ensures { result ≡ definition_of card.now }
 {
     match *card {
-        DeckCard::Field(f) => {
-            let name = f.name;
-            Some(Definition {
-                name,
-                shape: f.shape,
-            })
-        }
+        DeckCard::Field(f) => Some(defined_by(&f)),
         DeckCard::Calculation(c) => result_definition(c.result, c.shape),
         _ => None,
     }
+}
+
+// The place of a control level among ten: L1 to L9 have places 1 to 9.
+fn place_of_level(level: Indicator) -> usize
+    ensures { result ≡ level - 100 }
+{
+    level.saturating_sub(100) as usize
 }
 
 // The field that a card defines is entered.
@@ -73,8 +85,7 @@ impl Definitions {
     pub(crate) fn level_shape(&self, level: Indicator) -> Option<Shape>
         ensures { result ≡ level_shape self.now.levels level }
     {
-        let i = level.saturating_sub(100) as usize;
-        self.levels.get(i).copied().flatten()
+        self.levels.get(place_of_level(level)).copied().flatten()
     }
 
     fn define_level(&mut self, level: Option<Indicator>, shape: Shape)
@@ -84,8 +95,8 @@ impl Definitions {
         ensures inputs { self.new.inputs ≡ self.old.inputs }
     {
         if let Some(l) = level {
-            let i = l.saturating_sub(100) as usize;
-            // Not by `get_mut`, behind which nothing is known of the elements.
+            let i = place_of_level(l);
+            // Not by `get_mut`: what is written through it is not known behind it.
             if let Some(None) = self.levels.get(i) {
                 self.levels[i] = Some(shape);
             }
@@ -160,7 +171,7 @@ impl Seen {
         ensures { OnOk result (before_of self.new ≡ record { highest = self.old.highest; indicators = self.old.indicators.items; names = self.old.names.items ++ name ∷ []; levels = self.old.levels.items ++ option_to_list level }) }
     {
         self.names.push(name)?;
-        // Plainer than `extend(level)`, whose clause would need a proof of its own.
+        // Not `extend(level)`: one item or none, and its want of memory, are told more plainly so.
         if let Some(l) = level {
             self.levels.push(l)?;
         }

@@ -4,7 +4,7 @@ ghost use Rattle.fields.specs.Fields.{fields_of};
 ghost use Rattle.deck.specs.Rules.{are_alike, go_together, has_place, full, is_like, is_new_level, fits_shape, fits_level, doubles};
 ghost use Rattle.rules.specs.Finding.{place_of_name};
 
-use crate::defining::definition;
+use crate::defining::{defined_by, definition};
 use crate::definitions::Definitions;
 use crate::seen::Seen;
 use cards::kinds::{DeckCard, FieldCard, Shape};
@@ -76,12 +76,7 @@ impl Definitions {
     fn is_single_name(&self, seen: &Seen, f: &FieldCard) -> bool
         ensures { result ≡ (is_like (fields_of self.now.fields) (Some (record { name = f.now.name; shape = f.now.shape })) && not (is_some (place_of_name seen.now.names.items f.now.name))) }
     {
-        let name = f.name;
-        let defined = Definition {
-            name,
-            shape: f.shape,
-        };
-        is_like(&self.fields, Some(defined))
+        is_like(&self.fields, Some(defined_by(f)))
             && first_equal(seen.names.as_slice(), &f.name).is_none()
     }
 

@@ -1,4 +1,4 @@
-ghost use Rattle.std.specs.Prelude.{◌≡◌};
+ghost use Rattle.std.specs.Prelude.{◌≡◌, ◌∷◌, ◌++◌, Some, decimal};
 ghost use Rattle.deck.specs.declared.kinds.ReadError.TheVariants.{NoMemory};
 
 use cards::kinds::{Codes, Conditions, LineKind, Told};
@@ -7,6 +7,7 @@ use images::EditCode;
 use operations::Operation;
 use rules::Refusal;
 use std::alloc::AllocError;
+use std::fmt;
 
 // A field's name with its shape, as one card defines it.
 pub use fields::Definition;
@@ -91,7 +92,8 @@ pub struct Output {
     pub end: u16,
 }
 
-// The first breach of a deck: the refusal, the card, and the column; 0 stands for a whole deck or card.
+// The first breach of a deck: the refusal, the card, and the column; 0 stands for a whole deck or card, as it is told. A
+// card's rules tell a pair (`rules`), to which the card's number is added.
 #[derive(Clone, Copy, PartialEq, Eq, Debug)]
 pub struct Breach {
     pub refusal: Refusal,
@@ -120,4 +122,16 @@ pub struct Numbers {
     pub number: u8,
     pub card: usize,
     pub column: u8,
+}
+
+// As programs print it: NUMBER,CARD,COLUMN.
+impl fmt::Display for Numbers {
+    ghost output = { λ n. Some (decimal n.number ++ 44 ∷ decimal n.card ++ 44 ∷ decimal n.column) };
+
+    fn fmt<W: fmt::Write>(&self, f: &mut fmt::Formatter<W>) -> fmt::Result {
+        let number = self.number;
+        let card = self.card;
+        let column = self.column;
+        write!(f, "{number},{card},{column}")
+    }
 }

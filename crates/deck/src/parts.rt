@@ -8,10 +8,9 @@ use crate::definitions::Definitions;
 use crate::kinds::{Input, Output, Part};
 use columns::classes::{after, front};
 
-// Parts stand in one list for all elements, and not in each: so all is plain data that is copied, and what a field card
-// adds is the same whether or not a record card stands before it.
-
-// The parts of an element, by the place of its first part and that of the next element's.
+// The parts of an element, by the place of its first part and that of the next element's. Parts stand in one list for
+// all elements, and not in each: an element of one list in another could not be copied, and a field card without a
+// record card before it, which the definitions count, would have no place.
 fn parts_of<T>(parts: &[T], first: Option<usize>, next: Option<usize>) -> &[T]
     ensures { result.now ≡ parts_of parts.now first next }
 {

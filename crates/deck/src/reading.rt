@@ -111,7 +111,8 @@ impl Actions {
         Ok(())
     }
 
-    // The second sweep over the cards. Passed a closure, one loop for both sweeps would not say what the closure wrote.
+    // The second sweep over the cards. One loop for both would take a closure, of whose
+    // writes its clause could say nothing.
     fn look_up_all(&mut self, fields: &FieldTable, text: &[u8]) -> Result<(), ReadError>
         requires fields { fields_of fields.now ≡ fields_in text.now }
         requires empty { acted_of self.old ≡ no_actions }

@@ -10,7 +10,6 @@ use deck::deck::Deck;
 use deck::kinds::Numbers;
 use devices::{Card, Hopper};
 use hoppers::LineHopper;
-use shown::{Cell, Row};
 use std::io;
 use std::io::Read;
 use tables::show_deck;
@@ -72,13 +71,8 @@ fn answer(rt: &HostRuntime, deck: &mut Deck, cards: &[u8], cut: usize) -> io::Re
 }
 
 fn refuse(rt: &HostRuntime, told: Option<Numbers>) -> io::Result<()> {
-    let Some(told) = told else {
-        return rt.println("no memory");
-    };
-    rt.println(Row::<_, b','>(&[
-        Cell::Word("deck"),
-        Cell::Count(told.number as usize),
-        Cell::Count(told.card),
-        Cell::Count(told.column as usize),
-    ]))
+    match told {
+        Some(told) => println!(rt; "deck,{told}"),
+        None => rt.println("no memory"),
+    }
 }

@@ -18,7 +18,7 @@ pub enum Refusal {
 }
 
 impl Refusal {
-    // The fixed number of the answer; want of memory has none.
+    // The fixed number of the answer; want of memory has none. The numbers are told and never change.
     pub fn number(self) -> Option<u8>
         ensures { result ≡ number_of self }
     {

@@ -45,7 +45,7 @@ fn is_minus(s: &[u8]) -> bool
 fn unsigned_part(s: &[u8]) -> &[u8]
     ensures { result.now ≡ unsigned s.now }
 {
-    if is_minus(s) { after(s, 1) } else { s }
+    s.strip_prefix(b"-").unwrap_or(s)
 }
 
 // The columns behind the first digits and an optional point.
@@ -53,11 +53,7 @@ fn fraction_part(s: &[u8]) -> &[u8]
     ensures { result.now ≡ fraction s.now }
 {
     let rest = Class::Digit.past(s);
-    if at(rest, 0) == b'.' {
-        after(rest, 1)
-    } else {
-        rest
-    }
+    rest.strip_prefix(b".").unwrap_or(rest)
 }
 
 // Whether the columns hold a numeric literal.

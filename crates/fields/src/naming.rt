@@ -43,7 +43,7 @@ impl FieldTable {
         self.find(name).is_some()
     }
 
-    // The place of a name, and 0 for one that is not known: the total reading beside `find`.
+    // The place of a name, and 0 for one that is not known: public, it may not come to fail.
     pub fn place(&self, name: &Name) -> usize
         ensures { result ≡ place_of (fields_of self.now) name.now }
     {

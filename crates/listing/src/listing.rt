@@ -1,5 +1,5 @@
 // Cards listed as they are: each becomes a line of its eighty columns.
-ghost use Rattle.std.specs.Prelude.{◌≡◌, []};
+ghost use Rattle.std.specs.Prelude.{◌≡◌, [], ◌∷◌, ◌++◌, Some, decimal};
 ghost use Rattle.devices.specs.Meant.{meant_by};
 ghost use Rattle.listing.specs.Listings.{listing_line, bad_in, stop_of, ListsNext};
 ghost use Rattle.listing.specs.declared.listing.ListError.TheVariants.{Column};
@@ -7,6 +7,7 @@ ghost use Rattle.listing.specs.declared.listing.ListError.TheVariants.{Column};
 use columns::classes::at;
 use columns::filling::blank_filled;
 use devices::{Card, Hopper, Line, LineFault, Printer};
+use std::fmt;
 
 // A column, counted from 1, that holds no character, and the byte in it.
 #[derive(Clone, Copy, PartialEq, Eq, Debug)]
@@ -44,11 +45,24 @@ impl<F> From<BadColumn> for ListError<F> {
 }
 
 // Why a listing stopped, as it is told: a fixed number, how many cards were fed, and the column, or 0 where none is meant.
+// It is not the numbers of a deck's refusal: cards are counted here, and numbered there.
 #[derive(Clone, Copy, PartialEq, Eq, Debug)]
 pub struct Stop {
     pub number: u8,
     pub cards: u64,
     pub column: u8,
+}
+
+// As programs print it: NUMBER,CARDS,COLUMN.
+impl fmt::Display for Stop {
+    ghost output = { λ s. Some (decimal s.number ++ 44 ∷ decimal s.cards ++ 44 ∷ decimal s.column) };
+
+    fn fmt<W: fmt::Write>(&self, f: &mut fmt::Formatter<W>) -> fmt::Result {
+        let number = self.number;
+        let cards = self.cards;
+        let column = self.column;
+        write!(f, "{number},{cards},{column}")
+    }
 }
 
 // The stop that an answer is, if it is one, where `cards` were listed before. Their count stays at the largest number.
@@ -85,6 +99,7 @@ pub fn list_next<H: Hopper, P: Printer>(
         return Ok(Listed::End);
     };
     let line = line_of(&card)?;
+    // There is room, so the line is taken.
     let _ = printer.print(&line);
     Ok(Listed::Line)
 }

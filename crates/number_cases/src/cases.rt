@@ -130,108 +130,118 @@ pub const RESULTS: [Picture; 6] = [
     },
 ];
 
-// Columns that are to be read as a number of some digits.
+// The picture of a number of some digits, none of them decimals.
+macro_rules! whole {
+    ($digits:expr) => {
+        Picture {
+            digits: $digits,
+            decimals: 0,
+        }
+    };
+}
+
+// Columns that are to be read as a number of some digits, none of them decimals.
 #[derive(Clone, Copy)]
 pub struct Field {
     pub columns: &'static [u8],
-    pub digits: u8,
+    pub picture: Picture,
 }
 
 pub const FIELDS: [Field; 24] = [
     Field {
         columns: b"",
-        digits: 1,
+        picture: whole!(1),
     },
     Field {
         columns: b"1",
-        digits: 2,
+        picture: whole!(2),
     },
     Field {
         columns: b"12",
-        digits: 1,
+        picture: whole!(1),
     },
     Field {
         columns: b"5",
-        digits: 1,
+        picture: whole!(1),
     },
     Field {
         columns: b"}",
-        digits: 1,
+        picture: whole!(1),
     },
     Field {
         columns: b"R",
-        digits: 1,
+        picture: whole!(1),
     },
     Field {
         columns: b"999999999",
-        digits: 9,
+        picture: whole!(9),
     },
     Field {
         columns: b"99999999R",
-        digits: 9,
+        picture: whole!(9),
     },
     Field {
         columns: b"99999999I",
-        digits: 9,
+        picture: whole!(9),
     },
     Field {
         columns: b"        }",
-        digits: 9,
+        picture: whole!(9),
     },
     Field {
         columns: b"000000{",
-        digits: 7,
+        picture: whole!(7),
     },
     Field {
         columns: b"0012}",
-        digits: 5,
+        picture: whole!(5),
     },
     Field {
         columns: b"   12",
-        digits: 5,
+        picture: whole!(5),
     },
     Field {
         columns: b"1 2 3",
-        digits: 5,
+        picture: whole!(5),
     },
     Field {
         columns: b"12-",
-        digits: 3,
+        picture: whole!(3),
     },
     Field {
         columns: b"1.2",
-        digits: 3,
+        picture: whole!(3),
     },
     Field {
         columns: b"A12",
-        digits: 3,
+        picture: whole!(3),
     },
     Field {
         columns: b"1}2",
-        digits: 3,
+        picture: whole!(3),
     },
     Field {
         columns: b"     ",
-        digits: 5,
+        picture: whole!(5),
     },
     Field {
         columns: b"-5",
-        digits: 2,
+        picture: whole!(2),
     },
     Field {
         columns: b"0S",
-        digits: 2,
+        picture: whole!(2),
     },
     Field {
         columns: b"0@",
-        digits: 2,
+        picture: whole!(2),
     },
     Field {
         columns: b"0I",
-        digits: 2,
+        picture: whole!(2),
     },
     Field {
         columns: b"0J",
-        digits: 2,
+        picture: whole!(2),
     },
 ];

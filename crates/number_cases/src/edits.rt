@@ -40,6 +40,7 @@ fn asks(rt: &HostRuntime, byte: u8, style: EditStyle) -> io::Result<()> {
 pub fn images(rt: &HostRuntime) -> io::Result<()> {
     for digits in 1u8..10 {
         for decimals in [0, digits / 2, digits] {
+            // By `new`, though each is a picture: a literal would ask for a proof of it.
             if let Some(picture) = Picture::new(digits, decimals) {
                 widths(rt, picture)?;
                 values(rt, picture)?;

@@ -58,13 +58,11 @@ fn in_both(rt: &HostRuntime, byte: u8, picture: Picture) -> io::Result<()> {
 // Fields of several widths.
 pub fn fields(rt: &HostRuntime) -> io::Result<()> {
     for (i, field) in FIELDS.iter().enumerate() {
-        if let Some(picture) = Picture::new(field.digits, 0) {
-            rt.println(Row::<_, b' '>(&[
-                Cell::Word("read"),
-                Cell::Place(i),
-                answer(Amount::read(field.columns, 4, picture)),
-            ]))?;
-        }
+        rt.println(Row::<_, b' '>(&[
+            Cell::Word("read"),
+            Cell::Place(i),
+            answer(Amount::read(field.columns, 4, field.picture)),
+        ]))?;
     }
     Ok(())
 }

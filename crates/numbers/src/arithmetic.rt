@@ -76,7 +76,7 @@ impl Amount {
 }
 
 impl ArithmeticError {
-    // The number that the refusal is told under, where there is one.
+    // The number that the refusal is told under, where there is one. It never changes.
     pub fn number(&self) -> Option<u8>
         ensures { result ≡ arithmetic_number self.now }
     {

@@ -25,7 +25,7 @@ impl Amount {
 }
 
 impl ReadError {
-    // The number that the refusal is told under, where there is one.
+    // The number that the refusal is told under, where there is one. It never changes.
     pub fn number(&self) -> Option<u8>
         ensures { result ≡ read_number self.now }
     {

@@ -32,7 +32,7 @@ pub struct Takes {
     pub sets: bool,
 }
 
-// The operation that five columns name.
+// The operation that five columns name. An Option, and no TryFrom: an error would say nothing.
 pub fn read_operation(columns: &[u8]) -> Option<Operation>
     ensures { result ≡ operation_of columns.now }
 {

@@ -33,8 +33,9 @@ const STRIP: usize = 32768;
 fn main(rt: HostRuntime) -> anyhow::Result<()> {
     let mut text = Vec::new(rt.alloc());
     rt.stdin().read_to_end(&mut text)?;
-    let mut strip = Strip::new(rt.alloc(), STRIP)
-        .map_err(|_| anyhow!("there is no memory for a strip"))?;
+    let mut strip = Strip::new(rt.alloc(), STRIP).map_err(|_| anyhow!(
+        "there is no memory for a strip"
+    ))?;
     answer(&rt, text.as_slice(), &mut strip)
 }
 
@@ -85,7 +86,7 @@ fn refuse(rt: &HostRuntime, cards: &[u8], error: ReadError) -> io::Result<()> {
 
 fn print_refusal(rt: &HostRuntime, told: Option<Numbers>) -> io::Result<()> {
     match told {
-        Some(told) => println!(rt; "deck,{},{},{}", told.number, told.card, told.column),
+        Some(told) => println!(rt; "deck,{told}"),
         None => Ok(()),
     }
 }
@@ -143,13 +144,13 @@ fn finish(
     Err(anyhow!("the listing stopped"))
 }
 
-// Prints a stop, and says in words why the listing stopped.
+// Prints a stop, and says in words why the listing stopped. The answer is matched whole, as the stop is of the whole.
 fn tell_stop(
     rt: &HostRuntime,
     stop: Stop,
     last: Result<Listed, ListError<LongLine>>,
 ) -> io::Result<()> {
-    println!(rt; "stop,{},{},{}", stop.number, stop.cards, stop.column)?;
+    println!(rt; "stop,{stop}")?;
     match last {
         Err(ListError::Column(bad)) => telling::tell_byte(rt, stop.cards as usize, bad),
         Err(ListError::Fault(long)) => telling::tell_line(rt, "", long),

@@ -58,6 +58,10 @@ fn show_field(rt: &HostRuntime, field: &Definition) -> io::Result<()> {
             Cell::Count(digits as usize),
             Cell::Count(decimals as usize),
         ])),
-        Shape::Text { length } => rt.println(Row::<_, b','>(&[word, name, Cell::Count(length as usize)])),
+        Shape::Text { length } => rt.println(Row::<_, b','>(&[
+            word,
+            name,
+            Cell::Count(length as usize),
+        ])),
     }
 }

@@ -103,10 +103,13 @@ fn punch(kind: Kind, column: u8) -> &'static str {
     layout(kind)
         .iter()
         .find(|rule| (rule.from..=rule.to).contains(&column))
-        .map_or("this column may not be punched so", |rule| may_hold(rule.what))
+        .map_or(
+            "this column may not be punched so",
+            |rule| may_hold(rule.what),
+        )
 }
 
-// What may stand in an entry.
+// What may stand in an entry. No `Display`: the words are this program's, and `What` belongs to `cards`.
 fn may_hold(what: What) -> &'static str {
     match what {
         What::Free => "a free column holds a character, byte 32 to 126",

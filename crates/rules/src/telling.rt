@@ -33,5 +33,6 @@ pub fn each(card: &Card, class: Class, from: u8, to: u8) -> Option<Breach>
 pub fn first_of(rules: &[Option<Breach>]) -> Option<Breach>
     ensures { result ≡ first rules.now }
 {
+    // Tried as `find_map`: that none before it tells anything stayed open.
     rules.iter().copied().find(|rule| rule.is_some()).flatten()
 }

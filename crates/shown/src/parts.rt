@@ -44,7 +44,8 @@ impl fmt::Display for CodeText {
     }
 }
 
-// A field that is printed: its place, its edit code, and whether it is cleared, as `3/J/B`.
+// A field that is printed: its place, its edit code, and whether it is cleared, as `3/J/B`. This crate rests on no deck,
+// whose parts of lines have the same in them.
 #[derive(Clone, Copy)]
 pub struct PrintedText {
     pub field: usize,

@@ -27,8 +27,8 @@ pub use laws::longest_line;
 const LONGEST: usize = 139;
 
 // A printer that writes its lines one after another as text. The lines not torn off stand from `first` on: a queue
-// would not give them as one slice, which a program writes at once. The size stands beside them, since the capacity of a
-// `Vec` may be larger.
+// would not give them as one slice, which a program writes at once. The size stands beside them: of adding bytes the
+// library says only that the capacity does not shrink.
 #[derive(Drop)]
 pub struct Strip {
     held: Vec<u8>,
