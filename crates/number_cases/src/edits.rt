@@ -68,6 +68,7 @@ fn widths(rt: &HostRuntime, picture: Picture) -> io::Result<()> {
 fn values(rt: &HostRuntime, picture: Picture) -> io::Result<()> {
     let widest = 10i64.pow(u32::from(picture.digits)) - 1;
     for count in [0, 1, -1, widest, -widest, widest / 7, -(widest / 7)] {
+        // By `new`, for the same reason.
         if let Some(amount) = Amount::new(count, picture) {
             each(rt, amount)?;
         }
