@@ -147,7 +147,7 @@ fn source(text: &[u8], source: Source) -> Cell<'_> {
         } => Cell::Printed(PrintedText {
             field,
             edit,
-            clears: blank_after,
+            clears: blank_after.then_some("B"),
         }),
         Source::Constant(part) => quoted(text, part),
     }

@@ -1,7 +1,8 @@
 -- The first line of a text.
-use Rattle.std.proofs.Common.{◌≡◌, ℕ, suc, ◌+◌, ◌≤◌, Bool, true, false, cond, not, eqb, ltb, ◌==◌, List, [], ◌∷◌, ◌++◌, length, take, drop, Some, None, unwrap_or, sym, refl, ap, ◌∙◌, append_assoc, append-nil, arith}
+use Rattle.std.proofs.Common.{◌≡◌, ℕ, suc, ◌+◌, ◌<◌, ◌≤◌, Bool, true, false, cond, not, eqb, ltb, ◌==◌, List, [], ◌∷◌, ◌++◌, length, get_or, take, drop, Some, None, unwrap_or, sym, refl, ap, ◌∙◌, append_assoc, append-nil, arith}
 use Rattle.std.specs.List.{position, position_or_len, before_first, after_first}
 use Rattle.std.proofs.lemmas.Bool.Decides.{nat_tests}
+use Rattle.std.proofs.lemmas.List.{drop_more, take-append-drop}
 use Rattle.std.proofs.lemmas.List.Sums.{prefix_len-le-length}
 use Rattle.hoppers.specs.TextLines.{no_end, ended, last_line, lines_from, lines_of, LinesRead}
 
@@ -50,8 +51,14 @@ line_from start (b ∷ bs) h = at (eqb b 10) (line_from (start ++ b ∷ []) bs (
         let l : suc n + 1 ≡ suc (n + 1) = omega arith in
         rw (k, l) (rw append_assoc at e)
 
-pub first_line : (bs : List ℕ) (n : ℕ) → n ≡ unwrap_or (position is_end bs) (length bs) → 1 ≤ length bs → lines_of bs ≡ take n bs ∷ lines_of (drop (n + 1) bs)
-first_line bs n e h = rw (e ∙ first_or_end is_end bs) (line_from [] bs h)
+pub line_found : (bs : List ℕ) (n : ℕ) → n ≡ unwrap_or (position is_end bs) (length bs) → 1 ≤ length bs → lines_of bs ≡ take n bs ∷ lines_of (drop (n + 1) bs)
+line_found bs n e h = rw (e ∙ first_or_end is_end bs) (line_from [] bs h)
+
+-- the first line of bytes that are cut at a line end
+pub first_line : (bs : List ℕ) (n : ℕ) → n < length bs → no_end (take n bs) ≡ true → get_or bs n 0 ≡ 10 → lines_of bs ≡ take n bs ∷ lines_of (drop (n + 1) bs)
+first_line bs n h k e =
+    let d : drop n bs ≡ 10 ∷ drop (n + 1) bs = drop_more bs n 0 h ∙ ap (λ x. x ∷ drop (n + 1) bs) e in
+    ap lines_of (sym (take-append-drop n bs) ∙ ap (λ x. take n bs ++ x) d) ∙ cut (take n bs) (drop (n + 1) bs) k
 
 only : (bs : List ℕ) → no_end bs ≡ true → lines_of bs ≡ last_line bs
 only bs h = sym (ap lines_of (append-nil bs)) ∙ walk [] bs [] h

@@ -5,7 +5,7 @@
 // takes time for the one card that it feeds. Where the first line of a text ends stands here too, `line_length`, for
 // whoever else reads lines.
 //
-// This crate knows bytes and cards. It may not know what the columns of a card mean.
+// This crate knows bytes and cards, and fills columns with blanks. It may not know what the columns of a card mean.
 #![tactic(auto)]
 
 mod laws;

@@ -60,7 +60,7 @@ of_sign Omitted m = refl
 of_sign Minus true = refl
 of_sign Minus false = refl
 
-of_blanks : (n : ℕ) → printable (replicate n 32) ≡ true
+pub of_blanks : (n : ℕ) → printable (replicate n 32) ≡ true
 of_blanks zero = refl
 of_blanks (suc n) = of_blanks n
 
@@ -68,7 +68,7 @@ of_punch : (m : Bool) (d : ℕ) → d < 10 → prints (overpunch m d) ≡ true
 of_punch false d h = grind (arith, nat_tests)
 of_punch true d h = grind (arith, nat_tests)
 
-of_shown : (e : EditStyle) (n d : ℕ) (z : ℤ) → printable (blanked (text e.commas d (digits n (nat_abs z))) ++ sign_bytes e.sign (negative z)) ≡ true
+pub of_shown : (e : EditStyle) (n d : ℕ) (z : ℤ) → printable (blanked (text e.commas d (digits n (nat_abs z))) ++ sign_bytes e.sign (negative z)) ≡ true
 of_shown e n d z =
     let ds = digits n (nat_abs z) in
     join (blanked (text e.commas d ds)) (sign_bytes e.sign (negative z))

@@ -81,7 +81,7 @@ length-unedited n z h =
     let l = length_digits (n - 1) (nat_abs z / 10) in
     simp length-append (omega (arith, l))
 
-length-shown : (e : EditStyle) (n d : ℕ) (z : ℤ) → d ≤ n → length (blanked (text e.commas d (digits n (nat_abs z))) ++ sign_bytes e.sign (negative z)) ≡ edited_width e n d
+pub length-shown : (e : EditStyle) (n d : ℕ) (z : ℤ) → d ≤ n → length (blanked (text e.commas d (digits n (nat_abs z))) ++ sign_bytes e.sign (negative z)) ≡ edited_width e n d
 length-shown e n d z h =
     let t = length-text e.commas d n (nat_abs z) h in
     let s = length_sign e.sign (negative z) in

@@ -1,3 +1,4 @@
 pub mod Tens
 pub mod Scales
+pub mod Sizes
 pub mod Settles

@@ -20,7 +20,7 @@ impl Amount {
         ensures made { is_some result ≡ nat_lt (unsigned_abs count) (10 ^ picture.digits) }
         ensures parts { IfSome result (λ a. (a.count ≡ count) × (a.picture ≡ picture)) }
     {
-        // Tried as `then`: its closure does not know of the test, which the amount's ghost field asks for.
+        // As `then`, its closure would need the test once more, as a `requires`: tried, and no shorter.
         if count.unsigned_abs() < ten(picture.digits) {
             Some(Amount { count, picture })
         } else {

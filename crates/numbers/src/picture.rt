@@ -21,7 +21,7 @@ impl Picture {
         ensures made { is_some result ≡ is_picture digits decimals }
         ensures parts { IfSome result (λ p. (p.digits ≡ digits) × (p.decimals ≡ decimals)) }
     {
-        // Tried as `then`: its closure does not know of the test, which the picture's ghost fields ask for.
+        // As `then`, its closure would need the test once more, as a `requires`: tried, and no shorter.
         if (1..=WIDEST).contains(&digits) && decimals <= digits {
             Some(Picture { digits, decimals })
         } else {

@@ -106,7 +106,7 @@ fn punch(negative: bool, digit: u8) -> Punch
     Punch { negative, digit }
 }
 
-// The number of a size and a sign; zero has no sign.
+// The number of a size and a sign; zero has no sign. `entries` has its own, since it rests on `columns` alone.
 pub(crate) fn with_sign(negative: bool, size: u64) -> i64
     requires { size < 2 ^ 63 }
     ensures value { result ≡ signed negative size }

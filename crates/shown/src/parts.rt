@@ -2,8 +2,8 @@
 use crate::texts::OrDash;
 use cards::kinds::{Code, Shape};
 use columns::kinds::Literal;
-use images::EditCode;
 use std::fmt;
+use std::fmt::Display;
 
 // The size of a field: a number's digits and decimals, as `n5.2`, or the length of a text, as `a12`.
 #[derive(Clone, Copy)]
@@ -44,20 +44,20 @@ impl fmt::Display for CodeText {
     }
 }
 
-// A field that is printed: its place, its edit code, and whether it is cleared, as `3/J/B`. This crate rests on no deck,
-// whose parts of lines have the same in them.
+// A field that is printed: its place, its edit code, and a word where it is cleared, as `3/J/B`. Whatever can be printed
+// stands for the code. This crate rests on no deck, whose parts of lines have the same in them.
 #[derive(Clone, Copy)]
-pub struct PrintedText {
+pub struct PrintedText<E> {
     pub field: usize,
-    pub edit: Option<EditCode>,
-    pub clears: bool,
+    pub edit: Option<E>,
+    pub clears: Option<&'static str>,
 }
 
-impl fmt::Display for PrintedText {
+impl<E: Copy + Display> fmt::Display for PrintedText<E> {
     fn fmt<W: fmt::Write>(&self, f: &mut fmt::Formatter<W>) -> fmt::Result {
         let field = self.field;
         let edit = OrDash(self.edit);
-        let clears = OrDash(self.clears.then_some("B"));
+        let clears = OrDash(self.clears);
         write!(f, "{field}/{edit}/{clears}")
     }
 }

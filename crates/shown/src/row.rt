@@ -3,6 +3,7 @@ use crate::parts::{CodeText, LiteralText, PrintedText, SizeText};
 use crate::texts::{BytesText, ConditionText, IndicatorText, NameText, OrDash};
 use cards::kinds::{Code, LineKind, Shape};
 use columns::kinds::{Condition, Indicator, Literal, Name};
+use images::EditCode;
 use operations::Operation;
 use std::fmt;
 use std::fmt::Display;
@@ -26,7 +27,9 @@ pub enum Cell<'a> {
     Code(Option<Code>),
     Operation(Option<Operation>),
     Line(LineKind),
-    Printed(PrintedText),
+    Printed(PrintedText<EditCode>),
+    // A printed field whose edit code is given by a word.
+    PrintedBy(PrintedText<&'static str>),
 }
 
 impl fmt::Display for Cell<'_> {
@@ -49,6 +52,7 @@ impl fmt::Display for Cell<'_> {
             Cell::Operation(operation) => OrDash(operation).fmt(f),
             Cell::Line(kind) => kind.fmt(f),
             Cell::Printed(printed) => printed.fmt(f),
+            Cell::PrintedBy(printed) => printed.fmt(f),
         }
     }
 }

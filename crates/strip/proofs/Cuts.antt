@@ -67,18 +67,20 @@ pub record Grown (items' : List ℕ) (f : ℕ) (was : List Printed) (p : Printed
   pub written : strips (lines_in (drop f items')) ≡ drop f items'
   pub lines : lines_in (drop f items') ≡ was ++ p ∷ []
 
-pub grown : (s : Strip) (items' : List ℕ) (l : Line) → items' ≡ vec_items s.held ++ rendered (meant l) → Grown items' s.first (strip_lines s) (meant l)
-grown s items' l e =
-    let items = vec_items s.held in
-    let f = s.first in
-    let p = meant l in
-    let k = good_from p (record { first = l.first; last = l.last; near = l.near; far = l.far; wide = l.wide; shown = l.shown }) in
-    let a = added (drop f items) p s.good s.written k in
-    let d : drop f items' ≡ drop f items ++ rendered p = ap (drop f) e ∙ drop-append-le f items (rendered p) s.front in
+pub grown : (items items' : List ℕ) (f : ℕ) (p : Printed) → f ≤ length items → all_good (lines_in (drop f items)) ≡ true → strips (lines_in (drop f items)) ≡ drop f items → good p ≡ true →
+    items' ≡ items ++ rendered p → Grown items' f (lines_in (drop f items)) p
+grown items items' f p h g w k e =
+    let a = added (drop f items) p g w k in
+    let d : drop f items' ≡ drop f items ++ rendered p = ap (drop f) e ∙ drop-append-le f items (rendered p) h in
     let n : length items' ≡ length items + length (rendered p) = ap length e ∙ length-append items (rendered p) in
     let r : length (rendered p) ≡ length (body p) + 1 = length-append (body p) (10 ∷ []) in
-    let h = s.front in
     record { front = omega arith; anew = grind (arith, nat_tests); good = rw d a.good; written = rw d a.written; lines = rw d a.lines }
+
+-- a strip to which a line is added
+pub line_grown : (s : Strip) (items' : List ℕ) (l : Line) → items' ≡ vec_items s.held ++ rendered (meant l) → Grown items' s.first (strip_lines s) (meant l)
+line_grown s items' l e =
+    grown (vec_items s.held) items' s.first (meant l) s.front s.good s.written
+    (good_from (meant l) (record { first = l.first; last = l.last; near = l.near; far = l.far; wide = l.wide; shown = l.shown })) e
 
 -- the first line of bytes that a strip wrote, where n bytes stand before a line end
 pub record Torn (bs : List ℕ) (n : ℕ) : Type 0 where

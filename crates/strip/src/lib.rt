@@ -8,7 +8,8 @@
 // long as the longest line fits behind the last, and once no line is left it starts at its front again. A call takes
 // time for the one line that it moves, not for all that are held.
 //
-// This crate knows printers, lines and characters. It may not know what makes a line, nor where the text goes.
+// This crate knows printers, lines and characters, and fills columns with blanks. It may not know what makes a line, nor
+// where the text goes.
 #![tactic(auto)]
 
 ghost use Rattle.std.specs.Prelude.{◌≡◌, ◌≤◌, true, length, drop, vec_capacity};
@@ -27,7 +28,7 @@ pub use laws::longest_line;
 const LONGEST: usize = 139;
 
 // A printer that writes its lines one after another as text. The lines not torn off stand from `first` on: a queue
-// would not give them as one slice, which a program writes at once. The size stands beside them: of adding bytes the
+// would not give them as one slice, which a program writes at once. The size stands beside them: of adding a slice the
 // library says only that the capacity does not shrink.
 #[derive(Drop)]
 pub struct Strip {
